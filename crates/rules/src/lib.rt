@@ -1,0 +1,5 @@
+//! What must be believed of timing cards: their parts, edges and refusals. The definitions stand in specs/.
+pub mod edges;
+pub mod numbers;
+pub mod parts;
+pub mod refusal;
