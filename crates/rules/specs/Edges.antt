@@ -1,0 +1,56 @@
+-- The edges of a card: those that are given, and those that the rules N, U, L, X, R, M, S make of them.
+use Prim.Native.Nat.{ℕ, _<_}
+use mathlib.Core.Logic.{_≢_}
+use lib.IntN.{ℤ, pos, negℤ, _+ℤ_}
+use lib.Signed.{_≤ℤ_, _<ℤ_}
+use Rattle.rules.specs.declared.edges.Kind.{Kind}
+use Rattle.rules.specs.declared.edges.Kind.the-variants.{Plain, Lower, Wait, AllMost}
+use Rattle.rules.specs.declared.edges.Edge.{Edge}
+use Rattle.rules.specs.Card.{Card, spanCount, tieCount, startOf, finishOf, leastOf, mostOf, fromOf, toOf, gapOf}
+
+-- the edge of this kind from p to q of weight w
+abbrev pub edge : Kind → ℕ → ℕ → ℤ → Edge
+edge k p q w = record { kind = k; source = p; target = q; weight = w }
+
+-- The given edges: each point lies in the minutes 0 to H; each span lasts from its least to its most; each tie.
+pub data Given (card : Card) : Edge → Type 0 where
+  given-late : (p : ℕ) → 0 < p → p < card .points → Given card (edge Plain 0 p (pos (card .horizon)))
+  given-early : (p : ℕ) → 0 < p → p < card .points → Given card (edge Plain p 0 (pos 0))
+  given-most : (s : ℕ) → s < spanCount card → Given card (edge Plain (startOf card s) (finishOf card s) (pos (mostOf card s)))
+  given-least : (s : ℕ) → s < spanCount card → Given card (edge Plain (finishOf card s) (startOf card s) (negℤ (pos (leastOf card s))))
+  given-lower : (s : ℕ) → s < spanCount card → Given card (edge (Lower s) (startOf card s) (finishOf card s) (pos (leastOf card s)))
+  given-wait : (s : ℕ) → s < spanCount card → Given card (edge (Wait s) (finishOf card s) (startOf card s) (negℤ (pos (mostOf card s))))
+  given-tie : (i : ℕ) → i < tieCount card → Given card (edge Plain (fromOf card i) (toOf card i) (gapOf card i))
+
+-- ---- the rules
+
+-- how little the right edge of L and X must weigh
+abbrev pub Early : ℤ → Type 0
+Early v = v <ℤ pos 0
+
+-- how much a wait edge of span s must weigh for R
+abbrev pub Released : Card → ℕ → ℤ → Type 0
+Released card s v = negℤ (pos (leastOf card s)) ≤ℤ v
+
+-- `Rule card letter left right made`: the rule of this letter makes this edge of a left and a right edge. (The reductions of the field: no-case,
+-- upper-case, lower-case, cross-case, label removal; M and S stay within the AllMax projection.) A letter is its code: N 78, U 85, L 76, X 88, R 82, M 77, S 83.
+pub data Rule (card : Card) : ℕ → Edge → Edge → Edge → Type 0 where
+  rule-N : (p q r : ℕ) (u v : ℤ) → Rule card 78 (edge Plain p q u) (edge Plain q r v) (edge Plain p r (u +ℤ v))
+  rule-U : (s p q r : ℕ) (u v : ℤ) → Rule card 85 (edge Plain p q u) (edge (Wait s) q r v) (edge (Wait s) p r (u +ℤ v))
+  rule-L : (s p q r : ℕ) (u v : ℤ) → Early v → Rule card 76 (edge (Lower s) p q u) (edge Plain q r v) (edge Plain p r (u +ℤ v))
+  -- of two different spans
+  rule-X : (k s p q r : ℕ) (u v : ℤ) → k ≢ s → Early v → Rule card 88 (edge (Lower k) p q u) (edge (Wait s) q r v) (edge (Wait s) p r (u +ℤ v))
+  rule-R : (s p q : ℕ) (v : ℤ) → Released card s v → Rule card 82 (edge (Wait s) p q v) (edge (Wait s) p q v) (edge Plain p q v)
+  -- of a plain and of a wait edge
+  rule-M : (p q : ℕ) (v : ℤ) → Rule card 77 (edge Plain p q v) (edge Plain p q v) (edge AllMost p q v)
+  rule-Mw : (s p q : ℕ) (v : ℤ) → Rule card 77 (edge (Wait s) p q v) (edge (Wait s) p q v) (edge AllMost p q v)
+  rule-S : (p q r : ℕ) (u v : ℤ) → Rule card 83 (edge AllMost p q u) (edge AllMost q r v) (edge AllMost p r (u +ℤ v))
+
+-- `Derived card Within e`: the edge e is given, or a rule makes it of derived edges; and `Within` holds of it and of every edge on the way.
+pub data Derived (card : Card) (Within : Edge → Type 0) : Edge → Type 0 where
+  by-given : {e : Edge} → Given card e → Within e → Derived card Within e
+  by-rule : {letter : ℕ} {e f g : Edge} → Rule card letter e f g → Derived card Within e → Derived card Within f → Within g → Derived card Within g
+
+-- no edge is shut out on the way
+abbrev pub Any : Edge → Type 0
+Any e = Unit {0}

@@ -1,0 +1,87 @@
+-- Step lists: the numbers of edges, lawful steps, and what the reader of a list answers.
+use Prim.Native.Nat.{ℕ, zero, suc, _-_, _≤_, _<_}
+use mathlib.Core.Path.{_≡_}
+use mathlib.Core.List.{List, [], _∷_, _++_}
+use lib.ListN.{length, getD}
+use lib.IntN.{ℤ, pos, negsuc, negℤ}
+use lib.Signed.{_≤ℤ_, _<ℤ_}
+use Rattle.rules.specs.Card.{Card, spanCount, tieCount, startOf, finishOf, leastOf, mostOf, fromOf, toOf, gapOf}
+use Rattle.rules.specs.declared.edges.Kind.the-variants.{Plain, Lower, Wait}
+use Rattle.rules.specs.declared.edges.Edge.{Edge}
+use Rattle.rules.specs.declared.edges.Step.{Step}
+use Rattle.rules.specs.Edges.{edge, Rule}
+
+-- ---- the given edges in the order of their numbers: for the points 1 to n, for the first n spans, for the first n ties
+
+unfoldable pub point-edges : Card → ℕ → List Edge
+point-edges card zero = []
+point-edges card (suc n) = point-edges card n ++ (edge Plain 0 (suc n) (pos (card .horizon)) ∷ edge Plain (suc n) 0 (pos 0) ∷ [])
+
+unfoldable pub span-edges : Card → ℕ → List Edge
+span-edges card zero = []
+span-edges card (suc s) =
+    span-edges card s
+    ++ (edge Plain (startOf card s) (finishOf card s) (pos (mostOf card s))
+    ∷ edge Plain (finishOf card s) (startOf card s) (negℤ (pos (leastOf card s)))
+    ∷ edge (Lower s) (startOf card s) (finishOf card s) (pos (leastOf card s))
+    ∷ edge (Wait s) (finishOf card s) (startOf card s) (negℤ (pos (mostOf card s)))
+    ∷ [])
+
+unfoldable pub tie-edges : Card → ℕ → List Edge
+tie-edges card zero = []
+tie-edges card (suc i) = tie-edges card i ++ (edge Plain (fromOf card i) (toOf card i) (gapOf card i) ∷ [])
+
+-- an edge's number is its place here
+unfoldable pub given : Card → List Edge
+given card = point-edges card (card .points - 1) ++ (span-edges card (spanCount card) ++ tie-edges card (tieCount card))
+
+-- the step at place i of a list, counted from 0; beyond its end one that is never lawful
+unfoldable pub stepAt : List Step → ℕ → Step
+stepAt steps i = getD steps i (record { letter = 0; left = 0; right = 0; makes = edge Plain 0 0 (pos 0) })
+
+-- the edges known when the step at i is read: the given ones, then those that the steps before it make
+unfoldable pub known : Card → List Step → ℕ → List Edge
+known card steps zero = given card
+known card steps (suc i) = known card steps i ++ (stepAt steps i .makes ∷ [])
+
+-- ---- lawful steps
+
+-- The step makes its edge by its rule from edges with lower numbers; R and M repeat the left number as the right; the weight is in range.
+pub record LawfulStep (card : Card) (edges : List Edge) (step : Step) : Type 0 where
+  pub left-known : step .left < length edges
+  pub right-known : step .right < length edges
+  pub by-rule : Rule card (step .letter) (getD edges (step .left) (step .makes)) (getD edges (step .right) (step .makes)) (step .makes)
+  pub repeats-R : step .letter ≡ 82 → step .right ≡ step .left
+  pub repeats-M : step .letter ≡ 77 → step .right ≡ step .left
+  pub in-range : (negsuc 999_999 ≤ℤ step .makes .weight) × (step .makes .weight ≤ℤ pos 1_000_000)
+
+-- the step at i is lawful
+abbrev pub LawfulAt : Card → List Step → ℕ → Type 0
+LawfulAt card steps i = LawfulStep card (known card steps i) (stepAt steps i)
+
+-- the first n steps are lawful
+abbrev pub LawfulTo : Card → List Step → ℕ → Type 0
+LawfulTo card steps n = (i : ℕ) → i < n → LawfulAt card steps i
+
+-- there is a last step, and its edge leads from a point to itself and weighs less than 0
+pub record Closing (steps : List Step) : Type 0 where
+  pub some-step : 0 < length steps
+  pub itself : stepAt steps (length steps - 1) .makes .source ≡ stepAt steps (length steps - 1) .makes .target
+  pub negative : stepAt steps (length steps - 1) .makes .weight <ℤ pos 0
+
+-- ---- the reader
+
+-- what the reader of a list answers
+pub data Answer : Type 0 where
+  -- the list passes
+  passes : Answer
+  -- 17, with the place of the first unlawful step
+  unlawful : ℕ → Answer
+  -- 18: there is no closing loop
+  no-loop : Answer
+
+-- `Reads card steps answer`: this is the answer
+abbrev pub Reads : Card → List Step → Answer → Type 0
+Reads card steps passes = LawfulTo card steps (length steps) × Closing steps
+Reads card steps (unlawful i) = (i < length steps) × LawfulTo card steps i × (LawfulAt card steps i → ⊥)
+Reads card steps no-loop = LawfulTo card steps (length steps) × (Closing steps → ⊥)
