@@ -3,3 +3,4 @@ pub mod edges;
 pub mod numbers;
 pub mod parts;
 pub mod refusal;
+pub mod theorems;

@@ -1,0 +1,5 @@
+use Rattle.rules.proofs.Listed.{loops-lose, lists-tell}
+use Rattle.rules.proofs.theorems.loops_lose.Needs as need
+
+pub returns : need.returns
+returns c = record { loops = loops-lose; lists = lists-tell }
