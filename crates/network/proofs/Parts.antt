@@ -1,13 +1,13 @@
 -- The parts of a card, by number, are those of its arrays.
 use mathlib.Core.Path.{_≡_, refl, sym, ap, subst, _∙_}
-use mathlib.Core.Logic.{_⊎_, inl, inr}
-use mathlib.Core.Bool.{Bool, true, false, _&&_, _||_}
-use Prim.Native.Nat.{ℕ, zero, suc, _+_, _≤_, _<_}
+use mathlib.Core.Bool.{Bool, true, false}
+use Prim.Native.Nat.{ℕ, _<_}
 use native.Mathlib.Omega.{arith}
-use lib.Dec.{T, eqb, eqb-refl}
-use lib.ListN.{length, getD, take}
+use lib.Dec.{T}
+use lib.ListN.{getD}
 use lib.Seq.{length-take-le, getD-take}
-use Rattle.rules.specs.Card.{Card, no-span, no-tie, spanCount, tieCount, startOf, finishOf, leastOf, mostOf, fromOf, toOf, gapOf, anyBelow, finishAmong, isFinish}
+use Rattle.rules.specs.Card.{no-span, no-tie, spanCount, tieCount, startOf, finishOf, leastOf, mostOf, fromOf, toOf, gapOf, isFinish}
+use Rattle.rules.proofs.Basics.{finish-is as the-span, is-finish}
 use Rattle.network.specs.declared.content.Content.{Content}
 use Rattle.network.specs.declared.network.Network.{Network}
 use Rattle.network.specs.Model.{model}
@@ -59,19 +59,24 @@ module _ (c : Content) (i : ℕ) (h : i < c .tied) where
 
 -- ---- finishes
 
-any-none : (n : ℕ) (these : ℕ → Bool) → ((s : ℕ) → s < n → these s ≡ false) → anyBelow n these ≡ false
-unfolding anyBelow
-any-none zero these none = refl
-any-none (suc n) these none = rw (none n (omega arith)) (any-none n these (λ s h. none s (omega arith)))
+not-so : (b : Bool) → (T b → ⊥) → b ≡ false
+not-so true n = absurd (n tt)
+not-so false n = refl
 
-any-one : (n : ℕ) (these : ℕ → Bool) (s : ℕ) → s < n → these s ≡ true → anyBelow n these ≡ true
-unfolding anyBelow
-any-one zero these s h e = absurd (omega arith)
-any-one (suc n) these s h e = by (these n) refl
-  where
-    by : (b : Bool) → these n ≡ b → (b || anyBelow n these) ≡ true
-    by true i = refl
-    by false i = any-one n these s (lower i) e
-      where
-        lower : these n ≡ false → s < n
-        lower i = ?
+so : (b : Bool) → T b → b ≡ true
+so true t = refl
+so false t = absurd t
+
+module _ (n : Network) (p : ℕ) where
+  pub finish-none : ((s : ℕ) → s < n .content .spanned → getD (n .content .spans) s no-span .finish ≡ p → ⊥) → isFinish (model (n .content)) p ≡ false
+  finish-none none =
+      not-so _
+      (λ t.
+      let r = the-span (model (n .content)) p t in
+      let h : r .0 < n .content .spanned = omega (arith, r .1, span-count n) in
+      none (r .0) h (sym (finish-is (n .content) (r .0) h) ∙ r .2))
+
+  pub finish-some : (s : ℕ) → s < n .content .spanned → getD (n .content .spans) s no-span .finish ≡ p → isFinish (model (n .content)) p ≡ true
+  finish-some s h e =
+      let m = model (n .content) in
+      so _ (subst (λ q. T (isFinish m q)) (finish-is (n .content) s h ∙ e) (is-finish m s (omega (arith, span-count n))))

@@ -1,12 +1,13 @@
 -- What every card keeps, as facts over its content.
 use Prim.Native.Nat.{ℕ, _≤_, _<_}
 use mathlib.Core.Path.{_≡_}
-use lib.ListN.{length}
+use lib.ListN.{length, getD}
 use lib.IntN.{pos, negsuc}
 use lib.Signed.{_≤ℤ_}
-use Rattle.rules.specs.Card.{Card, spanCount, tieCount, startOf, finishOf, leastOf, mostOf, fromOf, toOf, gapOf}
+use Rattle.rules.specs.declared.parts.Span.{Span}
+use Rattle.rules.specs.declared.parts.Tie.{Tie}
+use Rattle.rules.specs.Card.{no-span, no-tie}
 use Rattle.network.specs.declared.content.Content.{Content}
-use Rattle.network.specs.Model.{model}
 
 -- the numbers are within their limits; one tie more than a card may have can be on trial
 abbrev pub Counts : Content → Type 0
@@ -17,21 +18,33 @@ abbrev pub Lengths : Content → Type 0
 Lengths c = (length (c .spans) ≡ 8) × (length (c .ties) ≡ 97)
 
 -- a span lasts 1 ≤ least ≤ most ≤ 1440 minutes
+abbrev pub Lasts : Span → Type 0
+Lasts s = (1 ≤ s .least) × (s .least ≤ s .most) × (s .most ≤ 1440)
+
 abbrev pub SpansLast : Content → Type 0
-SpansLast c = (s : ℕ) → s < c .spanned → (1 ≤ leastOf (model c) s) × (leastOf (model c) s ≤ mostOf (model c) s) × (mostOf (model c) s ≤ 1440)
+SpansLast c = (s : ℕ) → s < c .spanned → Lasts (getD (c .spans) s no-span)
 
 -- it leads to a later point
+abbrev pub Leads : ℕ → Span → Type 0
+Leads points s = (s .start < s .finish) × (s .finish < points)
+
 abbrev pub SpansLead : Content → Type 0
-SpansLead c = (s : ℕ) → s < c .spanned → (startOf (model c) s < finishOf (model c) s) × (finishOf (model c) s < c .points)
+SpansLead c = (s : ℕ) → s < c .spanned → Leads (c .points) (getD (c .spans) s no-span)
 
 -- a later span has a later finish
 abbrev pub SpansRise : Content → Type 0
-SpansRise c = (r s : ℕ) → r < s → s < c .spanned → finishOf (model c) r < finishOf (model c) s
+SpansRise c = (s : ℕ) → s < c .spanned → (r : ℕ) → r < s → getD (c .spans) r no-span .finish < getD (c .spans) s no-span .finish
 
 -- a tie leads from a point to another
-abbrev pub TiesLead : Content → Type 0
-TiesLead c = (i : ℕ) → i < c .tied → (fromOf (model c) i < c .points) × (toOf (model c) i < c .points) × (fromOf (model c) i ≡ toOf (model c) i → ⊥)
+abbrev pub Joins : ℕ → Tie → Type 0
+Joins points t = (t .from < points) × (t .to < points) × (t .from ≡ t .to → ⊥)
+
+abbrev pub TiesJoin : Content → Type 0
+TiesJoin c = (i : ℕ) → i < c .tied → Joins (c .points) (getD (c .ties) i no-tie)
 
 -- its gap is within its limits
+abbrev pub Near : Tie → Type 0
+Near t = (negsuc 1439 ≤ℤ t .gap) × (t .gap ≤ℤ pos 1440)
+
 abbrev pub TiesNear : Content → Type 0
-TiesNear c = (i : ℕ) → i < c .tied → (negsuc 1439 ≤ℤ gapOf (model c) i) × (gapOf (model c) i ≤ℤ pos 1440)
+TiesNear c = (i : ℕ) → i < c .tied → Near (getD (c .ties) i no-tie)

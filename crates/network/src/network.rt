@@ -1,5 +1,5 @@
 //! The content of a card with what every card keeps, whatever its state.
-ghost use Rattle.network.specs.Kept.{Counts, Lengths, SpansLast, SpansLead, SpansRise, TiesLead, TiesNear};
+ghost use Rattle.network.specs.Kept.{Counts, Lengths, SpansLast, SpansLead, SpansRise, TiesJoin, TiesNear};
 use crate::content::Content;
 
 /// A content that building calls can have made, or that one more tie, on trial, can have made of such a one.
@@ -11,6 +11,6 @@ pub struct Network {
     ghost last: { SpansLast content },
     ghost lead: { SpansLead content },
     ghost rise: { SpansRise content },
-    ghost joined: { TiesLead content },
+    ghost joined: { TiesJoin content },
     ghost near: { TiesNear content },
 }
