@@ -1,0 +1,2 @@
+//! Edges by number, steps, and the reading of step lists.
+pub mod given;
