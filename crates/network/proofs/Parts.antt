@@ -1,12 +1,13 @@
 -- The parts of a card, by number, are those of its arrays.
 use mathlib.Core.Path.{_≡_, refl, sym, ap, subst, _∙_}
-use mathlib.Core.Bool.{Bool, true, false}
+use mathlib.Core.Bool.{true, false}
 use Prim.Native.Nat.{ℕ, _<_}
 use native.Mathlib.Omega.{arith}
 use lib.Dec.{T}
 use lib.ListN.{getD}
 use lib.Seq.{length-take-le, getD-take}
 use Rattle.rules.specs.Card.{no-span, no-tie, spanCount, tieCount, startOf, finishOf, leastOf, mostOf, fromOf, toOf, gapOf, isFinish}
+use Rattle.rules.proofs.Flags.{so, not-so}
 use Rattle.rules.proofs.Basics.{finish-is as the-span, is-finish}
 use Rattle.network.specs.declared.content.Content.{Content}
 use Rattle.network.specs.declared.network.Network.{Network}
@@ -59,18 +60,10 @@ module _ (c : Content) (i : ℕ) (h : i < c .tied) where
 
 -- ---- finishes
 
-not-so : (b : Bool) → (T b → ⊥) → b ≡ false
-not-so true n = absurd (n tt)
-not-so false n = refl
-
-so : (b : Bool) → T b → b ≡ true
-so true t = refl
-so false t = absurd t
-
 module _ (n : Network) (p : ℕ) where
   pub finish-none : ((s : ℕ) → s < n .content .spanned → getD (n .content .spans) s no-span .finish ≡ p → ⊥) → isFinish (model (n .content)) p ≡ false
   finish-none none =
-      not-so _
+      not-so
       (λ t.
       let r = the-span (model (n .content)) p t in
       let h : r .0 < n .content .spanned = omega (arith, r .1, span-count n) in
@@ -79,4 +72,4 @@ module _ (n : Network) (p : ℕ) where
   pub finish-some : (s : ℕ) → s < n .content .spanned → getD (n .content .spans) s no-span .finish ≡ p → isFinish (model (n .content)) p ≡ true
   finish-some s h e =
       let m = model (n .content) in
-      so _ (subst (λ q. T (isFinish m q)) (finish-is (n .content) s h ∙ e) (is-finish m s (omega (arith, span-count n))))
+      so (subst (λ q. T (isFinish m q)) (finish-is (n .content) s h ∙ e) (is-finish m s (omega (arith, span-count n))))

@@ -6,15 +6,16 @@ use native.Mathlib.Nat.{suc-mul}
 use native.Mathlib.Omega.{arith}
 use native.Mathlib.Decide.{ℕ-discrete}
 use lib.Arith.{digits-lt}
-use lib.ListN.{length, getD, length-append}
+use lib.ListN.{length, getD, take, length-append}
+use lib.Seq.{length-take-le}
 use Rattle.std.proofs.shelf.Ways.{tells}
 use Rattle.std.specs.declared.option.Option.the-variants.{Some, None}
-use Rattle.std.proofs.shelf.Lists.{getD-append-left, getD-append-add}
+use Rattle.std.proofs.shelf.Lists.{getD-append-left, getD-append-add, getD-past}
 use lib.IntN.{pos, negℤ}
 use Rattle.rules.specs.declared.parts.Span.{Span}
 use Rattle.rules.specs.declared.edges.Kind.the-variants.{Plain, Lower, Wait}
 use Rattle.rules.specs.declared.edges.Edge.{Edge}
-use Rattle.rules.specs.Card.{Card, no-span, no-tie, spanCount, tieCount}
+use Rattle.rules.specs.Card.{Card, no-span, no-tie, spanCount, tieCount, leastOf}
 use Rattle.rules.specs.Edges.{edge}
 use Rattle.rules.specs.Steps.{given, point-edges, span-edges, tie-edges, of-point, of-span, of-tie, no-edge, edgeAt}
 use Rattle.network.specs.declared.content.Content.{Content}
@@ -151,3 +152,8 @@ module _ (n : Network) where
       let g = gap-is c k h in
       let here : getD (of-tie (model c) k) 0 no-edge ≡ edge Plain (getD (c .ties) k no-tie .from) (getD (c .ties) k no-tie .to) (getD (c .ties) k no-tie .gap) = cc in
       edge-some _ i e (omega (arith, given-long)) (q ∙ sym here ∙ sym (tie-at (model c) k no-edge (omega (arith, tie-count n))) ∙ ap (λ j. getD (given (model c)) j no-edge) (omega (arith, span-count n)))
+
+-- a span's least, by its place in the array; 0 past its end
+pub least-none : (n : Network) (s : ℕ) → n .content .spanned ≤ s → leastOf (model (n .content)) s ≡ 0
+unfolding leastOf
+least-none n s h = ap (λ x. x .least) (getD-past (take (n .content .spanned) (n .content .spans)) s no-span (omega (arith, length-take-le (n .content .spanned) (n .content .spans) (omega arith))))

@@ -1,2 +1,3 @@
 //! Edges by number, steps, and the reading of step lists.
 pub mod given;
+pub mod joins;
