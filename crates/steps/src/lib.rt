@@ -1,3 +1,4 @@
 //! Edges by number, steps, and the reading of step lists.
 pub mod given;
 pub mod joins;
+pub mod reads;
