@@ -2,3 +2,4 @@
 pub mod given;
 pub mod joins;
 pub mod reads;
+pub mod prints;
