@@ -1,5 +1,5 @@
 //! Edges by number, steps, and the reading of step lists.
 pub mod given;
 pub mod joins;
-pub mod reads;
 pub mod prints;
+pub mod reads;
