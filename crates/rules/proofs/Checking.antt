@@ -17,7 +17,7 @@ use Rattle.rules.specs.Game.{Good}
 use Rattle.rules.specs.Tables.{Table, Closed, SoundAtStart}
 use Rattle.rules.proofs.Basics.{and-left, and-right}
 use Rattle.rules.proofs.Closure.{Rulewise, closed-by}
-use Rattle.rules.proofs.Deciding.{implies, implies-out, lawful?, lawful-is}
+use Rattle.rules.proofs.Deciding.{Tested, early, released, implies, implies-out, lawful?, lawful-is}
 use Rattle.rules.proofs.Strategy.{tables-win}
 use Rattle.rules.proofs.Listed.{lists-tell}
 
@@ -117,11 +117,9 @@ module _ (c : Card) where
 
 -- ---- tables are closed and sound at the start
 
-le-if : (a b x y : ℤ) → T (implies (leZ a b) (leZ x y)) → a ≤ℤ b → x ≤ℤ y
-le-if a b x y h l = leZ-yes (implies-out (leZ a b) (leZ x y) h (l .le))
-
-le-if-lt : (a b x y : ℤ) → T (implies (ltZ a b) (leZ x y)) → a <ℤ b → x ≤ℤ y
-le-if-lt a b x y h l = leZ-yes (implies-out (ltZ a b) (leZ x y) h (l .lt))
+-- where a fact holds, so does the other
+le-if : {A : Type 0} (fact : Tested A) (x y : ℤ) → T (implies (fact .test) (leZ x y)) → A → x ≤ℤ y
+le-if fact x y h a = leZ-yes (implies-out (fact .test) (leZ x y) h (fact .passes-if a))
 
 module _ (c : Card) (D W : Table) where
   abbrev late? : ℕ → Bool
@@ -161,19 +159,19 @@ module _ (c : Card) (D W : Table) where
   U1? s = every (c .points) (U2? s)
 
   abbrev L? : ℕ → ℕ → Bool
-  L? s q = implies (ltZ (D (finishOf c s) q) (pos 0)) (leZ (D (startOf c s) q) (pos (leastOf c s) +ℤ D (finishOf c s) q))
+  L? s q = implies (early (D (finishOf c s) q) .test) (leZ (D (startOf c s) q) (pos (leastOf c s) +ℤ D (finishOf c s) q))
 
   abbrev L1? : ℕ → Bool
   L1? s = every (c .points) (L? s)
 
   abbrev X? : ℕ → ℕ → Bool
-  X? k s = implies (not (eqb k s)) (implies (ltZ (W s (finishOf c k)) (pos 0)) (leZ (W s (startOf c k)) (pos (leastOf c k) +ℤ W s (finishOf c k))))
+  X? k s = implies (not (eqb k s)) (implies (early (W s (finishOf c k)) .test) (leZ (W s (startOf c k)) (pos (leastOf c k) +ℤ W s (finishOf c k))))
 
   abbrev X1? : ℕ → Bool
   X1? k = every (spanCount c) (X? k)
 
   abbrev R? : ℕ → ℕ → Bool
-  R? s p = implies (leZ (negℤ (pos (leastOf c s))) (W s p)) (leZ (D p (startOf c s)) (W s p))
+  R? s p = implies (released c s (W s p) .test) (leZ (D p (startOf c s)) (W s p))
 
   abbrev R1? : ℕ → Bool
   R1? s = every (c .points) (R? s)
@@ -185,7 +183,7 @@ module _ (c : Card) (D W : Table) where
   started? s = implies (eqb (startOf c s) 0) (leZ (pos 0) (W s 0))
 
   abbrev waiting? : ℕ → Bool
-  waiting? s = implies (not (eqb (startOf c s) 0)) (leZ (negℤ (pos (leastOf c s))) (W s 0))
+  waiting? s = implies (not (eqb (startOf c s) 0)) (released c s (W s 0) .test)
 
   abbrev table-tests : List Bool
   table-tests =
@@ -219,9 +217,9 @@ module _ (c : Card) (D W : Table) where
     tie = λ i lt. leZ-yes (at-each _ tie? (nth table-tests h 5) i lt);
     N = λ p q r lp lq lr. leZ-yes (at-each _ (N? p q) (at-each _ (N2? p) (at-each _ N1? (nth table-tests h 6) p lp) q lq) r lr);
     U = λ s p q ls lp lq. leZ-yes (at-each _ (U? s p) (at-each _ (U2? s) (at-each _ U1? (nth table-tests h 7) s ls) p lp) q lq);
-    L = λ s q ls lq. le-if-lt _ _ _ _ (at-each _ (L? s) (at-each _ L1? (nth table-tests h 8) s ls) q lq);
-    X = λ k s lk ls n. le-if-lt _ _ _ _ (implies-out (not (eqb k s)) _ (at-each _ (X? k) (at-each _ X1? (nth table-tests h 9) k lk) s ls) (apart n));
-    R = λ s p ls lp. le-if _ _ _ _ (at-each _ (R? s) (at-each _ R1? (nth table-tests h 10) s ls) p lp);
+    L = λ s q ls lq. le-if (early (D (finishOf c s) q)) _ _ (at-each _ (L? s) (at-each _ L1? (nth table-tests h 8) s ls) q lq);
+    X = λ k s lk ls n. le-if (early (W s (finishOf c k))) _ _ (implies-out (not (eqb k s)) _ (at-each _ (X? k) (at-each _ X1? (nth table-tests h 9) k lk) s ls) (apart n));
+    R = λ s p ls lp. le-if (released c s (W s p)) _ _ (at-each _ (R? s) (at-each _ R1? (nth table-tests h 10) s ls) p lp);
   }
 
   start-sound : T winning? → SoundAtStart c D W
@@ -229,7 +227,7 @@ module _ (c : Card) (D W : Table) where
   start-sound h = record {
     ahead = λ p lt. leZ-yes (at-each _ ahead? (nth table-tests h 11) p lt);
     started = λ s lt e. leZ-yes (implies-out (eqb (startOf c s) 0) _ (at-each _ started? (nth table-tests h 12) s lt) (same e));
-    waiting = λ s lt n. leZ-yes (implies-out (not (eqb (startOf c s) 0)) _ (at-each _ waiting? (nth table-tests h 13) s lt) (apart n));
+    waiting = λ s lt n. released c s (W s 0) .passed (implies-out (not (eqb (startOf c s) 0)) _ (at-each _ waiting? (nth table-tests h 13) s lt) (apart n));
   }
 
   pub good-by : T (well-made? c) → T winning? → WellMade c × Good c

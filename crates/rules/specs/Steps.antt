@@ -1,15 +1,15 @@
 -- Step lists: the numbers of edges, lawful steps, and what the reader of a list answers.
-use Prim.Native.Nat.{ℕ, zero, suc, _-_, _≤_, _<_}
+use Prim.Native.Nat.{ℕ, zero, suc, _-_, _<_}
 use mathlib.Core.Path.{_≡_}
 use mathlib.Core.List.{List, [], _∷_, _++_}
 use lib.ListN.{length, getD}
-use lib.IntN.{ℤ, pos, negsuc, negℤ}
-use lib.Signed.{_≤ℤ_, _<ℤ_}
+use lib.IntN.{pos, negℤ}
+use lib.Signed.{_<ℤ_}
 use Rattle.rules.specs.Card.{Card, spanCount, tieCount, startOf, finishOf, leastOf, mostOf, fromOf, toOf, gapOf}
 use Rattle.rules.specs.declared.edges.Kind.the-variants.{Plain, Lower, Wait}
 use Rattle.rules.specs.declared.edges.Edge.{Edge}
 use Rattle.rules.specs.declared.edges.Step.{Step}
-use Rattle.rules.specs.Edges.{edge, Rule}
+use Rattle.rules.specs.Edges.{edge, Rule, InRange}
 
 -- ---- the given edges in the order of their numbers: for the points 1 to n, for the first n spans, for the first n ties
 
@@ -44,6 +44,10 @@ unfoldable pub known : Card → List Step → ℕ → List Edge
 known card steps zero = given card
 known card steps (suc i) = known card steps i ++ (stepAt steps i .makes ∷ [])
 
+-- the edges known at the end of the list
+abbrev pub all-known : Card → List Step → List Edge
+all-known card steps = known card steps (length steps)
+
 -- ---- lawful steps
 
 -- The step makes its edge by its rule from edges with lower numbers; R and M repeat the left number as the right; the weight is in range.
@@ -53,7 +57,7 @@ pub record LawfulStep (card : Card) (edges : List Edge) (step : Step) : Type 0 w
   pub by-rule : Rule card (step .letter) (getD edges (step .left) (step .makes)) (getD edges (step .right) (step .makes)) (step .makes)
   pub repeats-R : step .letter ≡ 82 → step .right ≡ step .left
   pub repeats-M : step .letter ≡ 77 → step .right ≡ step .left
-  pub in-range : (negsuc 999_999 ≤ℤ step .makes .weight) × (step .makes .weight ≤ℤ pos 1_000_000)
+  pub in-range : InRange (step .makes)
 
 -- the step at i is lawful
 abbrev pub LawfulAt : Card → List Step → ℕ → Type 0
@@ -62,6 +66,10 @@ LawfulAt card steps i = LawfulStep card (known card steps i) (stepAt steps i)
 -- the first n steps are lawful
 abbrev pub LawfulTo : Card → List Step → ℕ → Type 0
 LawfulTo card steps n = (i : ℕ) → i < n → LawfulAt card steps i
+
+-- every step is lawful
+abbrev pub AllLawful : Card → List Step → Type 0
+AllLawful card steps = LawfulTo card steps (length steps)
 
 -- there is a last step, and its edge leads from a point to itself and weighs less than 0
 pub record Closing (steps : List Step) : Type 0 where
@@ -82,6 +90,6 @@ pub data Answer : Type 0 where
 
 -- `Reads card steps answer`: this is the answer
 abbrev pub Reads : Card → List Step → Answer → Type 0
-Reads card steps passes = LawfulTo card steps (length steps) × Closing steps
+Reads card steps passes = AllLawful card steps × Closing steps
 Reads card steps (unlawful i) = (i < length steps) × LawfulTo card steps i × (LawfulAt card steps i → ⊥)
-Reads card steps no-loop = LawfulTo card steps (length steps) × (Closing steps → ⊥)
+Reads card steps no-loop = AllLawful card steps × (Closing steps → ⊥)

@@ -4,14 +4,14 @@ use mathlib.Core.Path.{_≡_}
 use mathlib.Core.Logic.{_≢_}
 use mathlib.Core.Bool.{Bool, _||_}
 use lib.Dec.{T}
-use lib.IntN.{ℤ, pos, negℤ, _+ℤ_}
+use lib.IntN.{ℤ, pos, _+ℤ_}
 use lib.Signed.{_≤ℤ_}
 use Rattle.std.specs.declared.option.Option.the-variants.{Some, None}
 use Rattle.rules.specs.Card.{Card, spanCount, startOf, finishOf, leastOf, isFinish}
 use Rattle.rules.specs.declared.edges.Kind.{Kind}
 use Rattle.rules.specs.declared.edges.Kind.the-variants.{Plain, Lower, Wait, AllMost}
 use Rattle.rules.specs.declared.edges.Edge.{Edge}
-use Rattle.rules.specs.Edges.{edge, Given, Rule, Derived}
+use Rattle.rules.specs.Edges.{edge, Given, Rule, Released, Derived}
 use Rattle.rules.specs.Game.{Position}
 
 -- D p q is the weight of a plain edge from p to q (a distance), and W s p that of a wait edge of span s, from p to its start
@@ -52,7 +52,7 @@ pub record Traced (card : Card) (D W : Table) : Type 0 where
 pub record SoundAtStart (card : Card) (D W : Table) : Type 0 where
   pub ahead : (p : ℕ) → p < card .points → pos 0 ≤ℤ D 0 p
   pub started : (s : ℕ) → s < spanCount card → startOf card s ≡ 0 → pos 0 ≤ℤ W s 0
-  pub waiting : (s : ℕ) → s < spanCount card → startOf card s ≢ 0 → negℤ (pos (leastOf card s)) ≤ℤ W s 0
+  pub waiting : (s : ℕ) → s < spanCount card → startOf card s ≢ 0 → Released card s (W s 0)
 
 -- The position fits the tables at minute t, where points that have not happened may happen at t, and those `put-off` only after t.
 pub record Fits (card : Card) (D W : Table) (t : ℕ) (put-off : ℕ → Bool) (at : Position) : Type 0 where
@@ -67,7 +67,7 @@ pub record Fits (card : Card) (D W : Table) (t : ℕ) (put-off : ℕ → Bool) (
   pub ahead-late : (p q a : ℕ) → at p ≡ Some a → q < card .points → at q ≡ None → T (put-off q) → pos (suc t) ≤ℤ (pos a +ℤ D p q)
   -- of a span that has not finished: if it has started, then whatever has happened waited for it; if not, it can still be waited for
   pub started : (s p a b : ℕ) → s < spanCount card → at p ≡ Some a → at (finishOf card s) ≡ None → at (startOf card s) ≡ Some b → pos b ≤ℤ (pos a +ℤ W s p)
-  pub waiting : (s p a : ℕ) → s < spanCount card → at p ≡ Some a → at (finishOf card s) ≡ None → at (startOf card s) ≡ None → negℤ (pos (leastOf card s)) ≤ℤ W s p
+  pub waiting : (s p a : ℕ) → s < spanCount card → at p ≡ Some a → at (finishOf card s) ≡ None → at (startOf card s) ≡ None → Released card s (W s p)
 
 -- what is put off within a minute, after the kitchen's choice: finishes, and orders that are held
 unfoldable pub late : Card → (ℕ → Bool) → ℕ → Bool
