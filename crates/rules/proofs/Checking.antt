@@ -1,25 +1,25 @@
 -- Tests that compute: a card is well made, tables are closed and sound at the start, a list passes.
-use Prim.Native.Nat.{ℕ, zero, suc, _+_, _-_, _≤_, _<_}
-use mathlib.Core.Path.{_≡_, refl, sym, subst}
+use Prim.Native.Nat.{ℕ, zero, suc, _-_, _<_}
+use mathlib.Core.Path.{_≡_, sym, subst}
 use mathlib.Core.Logic.{_≢_}
-use mathlib.Core.Bool.{Bool, true, false, not, _&&_, _||_}
+use mathlib.Core.Bool.{Bool, true, not, _&&_}
 use mathlib.Core.List.{List, [], _∷_}
 use native.Mathlib.Omega.{arith}
 use native.Mathlib.Decide.{ℕ-discrete}
-use lib.Dec.{T, eqb, leb, ltb, eqb→eq, eqb-refl, leb→le, ltb→lt, lt→ltb, not-T}
+use lib.Dec.{T, eqb, leb, ltb, eqb→eq, eqb-refl, leb→le, ltb→lt, not-T}
 use lib.ListN.{length, getD}
 use lib.IntN.{ℤ, pos, negℤ, _+ℤ_}
-use lib.Signed.{_≤ℤ_, _<ℤ_, leZ, ltZ, leZ-yes, ltZ-yes}
+use lib.Signed.{_≤ℤ_, leZ, ltZ, leZ-yes, ltZ-yes}
 use Rattle.rules.specs.Card.{Card, WellMade, spanCount, tieCount, startOf, finishOf, leastOf, mostOf, fromOf, toOf, gapOf}
 use Rattle.rules.specs.declared.edges.Step.{Step}
-use Rattle.rules.specs.Steps.{stepAt, known, LawfulAt, LawfulTo, Closing, passes, Reads}
+use Rattle.rules.specs.Steps.{stepAt, known, passes, Reads}
 use Rattle.rules.specs.Game.{Good}
-use Rattle.rules.specs.Tables.{Table, Closed, SoundAtStart}
+use Rattle.rules.specs.Tables.{Table, SoundAtStart}
 use Rattle.rules.proofs.Basics.{and-left, and-right}
+use Rattle.rules.proofs.Listed.{lists-tell}
 use Rattle.rules.proofs.Closure.{Rulewise, closed-by}
 use Rattle.rules.proofs.Deciding.{Tested, early, released, implies, implies-out, lawful?, lawful-is}
 use Rattle.rules.proofs.Strategy.{tables-win}
-use Rattle.rules.proofs.Listed.{lists-tell}
 
 -- does f hold of every number below n?
 unfoldable pub every : ℕ → (ℕ → Bool) → Bool

@@ -1,23 +1,23 @@
 -- Whether a step is lawful can be computed; so each list has an answer.
-use Prim.Native.Nat.{ℕ, zero, suc, _+_, _-_, _≤_, _<_}
-use mathlib.Core.Path.{_≡_, refl, sym, ap, subst, _∙_}
-use mathlib.Core.Logic.{_≢_, _⊎_, inl, inr, ⊎-elim, _↔_}
+use Prim.Native.Nat.{ℕ, zero, suc, _-_, _<_}
+use mathlib.Core.Path.{_≡_, refl, sym, ap, subst}
+use mathlib.Core.Logic.{_≢_, _⊎_, inl, inr, ⊎-elim}
 use mathlib.Core.Bool.{Bool, true, false, not, _&&_, _||_}
-use mathlib.Core.List.{List, []}
+use mathlib.Core.List.{List}
 use native.Mathlib.Omega.{arith}
 use native.Mathlib.Decide.{ℕ-discrete}
-use lib.Dec.{T, eqb, leb, ltb, eqb→eq, eqb-refl, ltb→lt, lt→ltb, T-not, not-T}
+use lib.Dec.{T, eqb, ltb, eqb→eq, eqb-refl, ltb→lt, lt→ltb, T-not, not-T}
 use lib.ListN.{length, getD}
-use lib.IntN.{ℤ, pos, negsuc, negℤ, _+ℤ_}
+use lib.IntN.{ℤ, pos, negsuc, _+ℤ_}
 use lib.Signed.{_≤ℤ_, _<ℤ_, leZ, ltZ, leZ-yes, ltZ-yes}
 use Rattle.std.proofs.shelf.Signed.{ints}
-use Rattle.rules.specs.Card.{Card, leastOf}
+use Rattle.rules.specs.Card.{Card}
 use Rattle.rules.specs.declared.edges.Kind.{Kind}
 use Rattle.rules.specs.declared.edges.Kind.the-variants.{Plain, Lower, Wait, AllMost}
 use Rattle.rules.specs.declared.edges.Edge.{Edge}
 use Rattle.rules.specs.Edges.{edge, Early, Released, Rule, rule-N, rule-U, rule-L, rule-X, rule-R, rule-M, rule-Mw, rule-S}
 use Rattle.rules.specs.declared.edges.Step.{Step}
-use Rattle.rules.specs.Steps.{stepAt, known, LawfulStep, LawfulAt, LawfulTo, Closing, Answer, passes, unlawful, no-loop, Reads}
+use Rattle.rules.specs.Steps.{stepAt, known, LawfulStep, LawfulAt, LawfulTo, Closing, passes, unlawful, no-loop}
 use Rattle.rules.specs.Theorems.{Some-answer}
 use Rattle.rules.proofs.Basics.{and-left, and-right, and-both, or-cases, or-left, or-right, decide}
 

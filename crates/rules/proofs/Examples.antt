@@ -1,20 +1,11 @@
 -- The small cards: good by tables, bad by steps; both compute.
-use Prim.Native.Nat.{ℕ, zero, suc, _<_}
-use mathlib.Core.Path.{refl}
-use mathlib.Core.Logic.{_≢_}
 use mathlib.Core.List.{List, [], _∷_}
-use native.Mathlib.Omega.{arith}
-use lib.Dec.{lit<}
 use lib.ListN.{getD}
 use lib.IntN.{ℤ, pos, negsuc}
-use lib.Signed.{leZ-yes}
-use Rattle.rules.specs.Card.{Card, spanCount, tieCount, startOf, finishOf, leastOf, mostOf, fromOf, toOf, gapOf}
-use Rattle.rules.specs.declared.edges.Kind.{Kind}
-use Rattle.rules.specs.declared.edges.Kind.the-variants.{Plain, Lower, Wait}
-use Rattle.rules.specs.Edges.{edge, given-most, given-least, given-wait, given-tie, rule-N, rule-U, Derived, by-given, by-rule}
-use Rattle.rules.specs.declared.edges.Step.{Step}
+use Rattle.rules.specs.Card.{spanCount, tieCount, startOf, finishOf, leastOf, mostOf, fromOf, toOf, gapOf}
+use Rattle.rules.specs.declared.edges.Kind.the-variants.{Plain, Wait}
 use Rattle.rules.specs.Steps.{point-edges, span-edges, tie-edges, given, stepAt, known, passes}
-use Rattle.rules.specs.Tables.{Table, Above, Traced}
+use Rattle.rules.specs.Tables.{Table}
 use Rattle.rules.specs.Cards.{tie, step, alone, one-span, with-order, far-orders, bread, bread-steps, Stands, good, bad, reads}
 use Rattle.rules.specs.Theorems.{Examples-stand}
 use Rattle.rules.proofs.Deciding.{less, at-most, early, released, same-kind, same-weight, same-edge, instance, span-of, rule?, implies, lawful?}
@@ -86,61 +77,6 @@ bread-bad = bad-by (bread 19) bread-steps tt tt
 bread-passes : Stands (reads (bread 19) bread-steps passes)
 unfolding every all-of less at-most early released implies well-made? passing? spanCount tieCount startOf finishOf leastOf mostOf fromOf toOf gapOf point-edges span-edges tie-edges given stepAt known same-kind same-weight same-edge instance span-of rule? lawful?
 bread-passes = passing-is (bread 19) bread-steps tt
-
--- ---- tables that are closed, derived and sound at the start do exist
-
-abbrev at-once : Card
-at-once = with-order (tie 1 2 (pos 0) ∷ tie 2 1 (pos 0) ∷ [])
-
-abbrev D : Table
-D = rows ((pos 0 ∷ pos 3 ∷ pos 3 ∷ []) ∷ (negsuc 1 ∷ pos 0 ∷ pos 0 ∷ []) ∷ (negsuc 1 ∷ pos 0 ∷ pos 0 ∷ []) ∷ [])
-
-abbrev W : Table
-W = rows ((pos 0 ∷ negsuc 2 ∷ negsuc 2 ∷ []) ∷ [])
-
-abbrev Reached : Kind → ℕ → ℕ → ℤ → Type 0
-Reached kind p q w = Derived at-once (Above D W) (edge kind p q w)
-
-pub traced : Traced at-once D W
-unfolding rows spanCount tieCount startOf finishOf leastOf mostOf fromOf toOf gapOf
-traced = record { plainly = plainly; waiting = waiting }
-  where
-    to-finish : Reached Plain 0 1 (pos 3)
-    to-finish = by-given (given-most 0 (lit< tt)) (leZ-yes tt)
-
-    from-finish : Reached Plain 1 0 (negsuc 1)
-    from-finish = by-given (given-least 0 (lit< tt)) (leZ-yes tt)
-
-    to-order : Reached Plain 1 2 (pos 0)
-    to-order = by-given (given-tie 0 (lit< tt)) (leZ-yes tt)
-
-    from-order : Reached Plain 2 1 (pos 0)
-    from-order = by-given (given-tie 1 (lit< tt)) (leZ-yes tt)
-
-    wait-finish : Reached (Wait 0) 1 0 (negsuc 2)
-    wait-finish = by-given (given-wait 0 (lit< tt)) (leZ-yes tt)
-
-    plainly : (p q : ℕ) → p < 3 → q < 3 → p ≢ q → Reached Plain p q (D p q)
-    plainly zero zero lp lq n = absurd (n refl)
-    plainly zero (suc zero) lp lq n = to-finish
-    plainly zero (suc (suc zero)) lp lq n = by-rule (rule-N 0 1 2 (pos 3) (pos 0)) to-finish to-order (leZ-yes tt)
-    plainly (suc zero) zero lp lq n = from-finish
-    plainly (suc zero) (suc zero) lp lq n = absurd (n refl)
-    plainly (suc zero) (suc (suc zero)) lp lq n = to-order
-    plainly (suc (suc zero)) zero lp lq n = by-rule (rule-N 2 1 0 (pos 0) (negsuc 1)) from-order from-finish (leZ-yes tt)
-    plainly (suc (suc zero)) (suc zero) lp lq n = from-order
-    plainly (suc (suc zero)) (suc (suc zero)) lp lq n = absurd (n refl)
-    plainly (suc (suc (suc p))) q lp lq n = absurd (omega arith)
-    plainly zero (suc (suc (suc q))) lp lq n = absurd (omega arith)
-    plainly (suc zero) (suc (suc (suc q))) lp lq n = absurd (omega arith)
-    plainly (suc (suc zero)) (suc (suc (suc q))) lp lq n = absurd (omega arith)
-
-    waiting : (s p : ℕ) → s < 1 → p < 3 → Reached (Wait s) p (startOf at-once s) (W s p)
-    waiting (suc s) p ls lp = absurd (omega arith)
-    waiting zero zero ls lp = by-rule (rule-U 0 0 1 0 (pos 3) (negsuc 2)) to-finish wait-finish (leZ-yes tt)
-    waiting zero (suc zero) ls lp = wait-finish
-    waiting zero (suc (suc zero)) ls lp = by-rule (rule-U 0 2 1 0 (pos 0) (negsuc 2)) from-order wait-finish (leZ-yes tt)
-    waiting zero (suc (suc (suc p))) ls lp = absurd (omega arith)
 
 pub examples-stand : Examples-stand
 examples-stand =

@@ -1,18 +1,17 @@
 -- What tells the mark of a card: a negative loop, and closed tables whose entries are derived.
-use Prim.Native.Nat.{ℕ, zero, suc, _+_, _≤_, _<_}
-use mathlib.Core.Path.{_≡_, refl, sym, ap, subst, _∙_}
+use Prim.Native.Nat.{ℕ, zero, suc, _<_}
+use mathlib.Core.Path.{_≡_, refl, subst}
 use mathlib.Core.Logic.{_≢_}
 use native.Mathlib.Omega.{arith}
-use lib.IntN.{ℤ, pos, negℤ, _+ℤ_}
-use lib.Signed.{_≤ℤ_, _<ℤ_}
+use lib.IntN.{ℤ, pos, _+ℤ_}
+use lib.Signed.{_≤ℤ_}
 use Rattle.std.proofs.shelf.Signed.{ints, by-ltZ}
-use Rattle.rules.specs.Card.{Card, WellMade, spanCount, startOf, leastOf}
+use Rattle.rules.specs.Card.{Card, WellMade, spanCount, startOf}
 use Rattle.rules.specs.declared.edges.Kind.{Kind}
 use Rattle.rules.specs.declared.edges.Kind.the-variants.{Plain, Wait, AllMost}
-use Rattle.rules.specs.declared.edges.Edge.{Edge}
 use Rattle.rules.specs.Edges.{edge, given-early, rule-N, rule-M, rule-Mw, rule-S, Derived, by-given, by-rule, Any}
 use Rattle.rules.specs.Game.{Good}
-use Rattle.rules.specs.Tables.{Table, Above, Closed, Traced, SoundAtStart}
+use Rattle.rules.specs.Tables.{Table, Traced, SoundAtStart}
 use Rattle.rules.specs.Theorems.{Loops-lose, Marks-exact}
 use Rattle.rules.proofs.Claims.{no-plan}
 use Rattle.rules.proofs.Closure.{Rulewise, rulewise}
