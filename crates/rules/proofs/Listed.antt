@@ -82,11 +82,11 @@ module _ (card : Card) (steps : List Step) (s : Step) where
   lawful-more law more i h =
       elim (ℕ-discrete i (length steps)) [
         | yes e ↦ subst (LawfulAt card longer) (sym e)
-          (subst (λ es. LawfulStep card es (stepAt longer (length steps))) (sym (known-same card steps (s ∷ []) (length steps) (omega arith)))
-          (subst (LawfulStep card (known card steps (length steps))) (sym at-end) more))
+            (subst (λ es. LawfulStep card es (stepAt longer (length steps))) (sym (known-same card steps (s ∷ []) (length steps) (omega arith)))
+            (subst (LawfulStep card (known card steps (length steps))) (sym at-end) more))
         | no n ↦ let lt : i < length steps = omega (arith, longer-by-one) in
-          subst (λ es. LawfulStep card es (stepAt longer i)) (sym (known-same card steps (s ∷ []) i (omega arith)))
-          (subst (LawfulStep card (known card steps i)) (sym (at-same card steps (s ∷ []) i lt)) (law i lt))
+            subst (λ es. LawfulStep card es (stepAt longer i)) (sym (known-same card steps (s ∷ []) i (omega arith)))
+            (subst (LawfulStep card (known card steps i)) (sym (at-same card steps (s ∷ []) i lt)) (law i lt))
       ]
 
   -- and its edge is known then, the last
@@ -173,7 +173,7 @@ module _ (card : Card) where
         x .0 ++ one,
         subst (AllLawful card) same (lawful-more card l (s .0) (x .1) (s .1)),
         subst (λ m. Has (all-known card m) g) same
-        (subst (λ es. Has es g) (sym (known-more card l (s .0))) (subst (Has (all-known card l ++ (s .0 .makes ∷ []))) (s .2) (has-push (all-known card l) (s .0 .makes)))),
+            (subst (λ es. Has es g) (sym (known-more card l (s .0))) (subst (Has (all-known card l ++ (s .0 .makes ∷ []))) (s .2) (has-push (all-known card l) (s .0 .makes)))),
       )
 
   reach : {e : Edge} → Derived card InRange e → Reach e

@@ -1,4 +1,4 @@
--- Step lists: the numbers of edges, lawful steps, and what the reader of a list answers.
+-- Step lists: the numbers of edges, lawful steps, and what the reader of a list answers. A list that passes shows that nobody can win.
 use Prim.Native.Nat.{ℕ, zero, suc, _-_, _<_}
 use mathlib.Core.Path.{_≡_}
 use mathlib.Core.List.{List, [], _∷_, _++_}
@@ -11,12 +11,14 @@ use Rattle.rules.specs.declared.edges.Edge.{Edge}
 use Rattle.rules.specs.declared.edges.Step.{Step}
 use Rattle.rules.specs.Edges.{edge, Rule, InRange}
 
--- ---- the given edges in the order of their numbers: for the points 1 to n, for the first n spans, for the first n ties
+-- ---- the numbers of edges: first the given ones, counted from 0, then those that the steps make
 
+-- the given edges for the points 1 to n: the point happens in the minutes 0 to H
 unfoldable pub point-edges : Card → ℕ → List Edge
 point-edges card zero = []
 point-edges card (suc n) = point-edges card n ++ (edge Plain 0 (suc n) (pos (card .horizon)) ∷ edge Plain (suc n) 0 (pos 0) ∷ [])
 
+-- for the first spans: each lasts at most its most, at least its least; its lower edge, and its wait
 unfoldable pub span-edges : Card → ℕ → List Edge
 span-edges card zero = []
 span-edges card (suc s) =
@@ -27,11 +29,12 @@ span-edges card (suc s) =
     ∷ edge (Wait s) (finishOf card s) (startOf card s) (negℤ (pos (mostOf card s)))
     ∷ [])
 
+-- for the first ties
 unfoldable pub tie-edges : Card → ℕ → List Edge
 tie-edges card zero = []
 tie-edges card (suc i) = tie-edges card i ++ (edge Plain (fromOf card i) (toOf card i) (gapOf card i) ∷ [])
 
--- an edge's number is its place here
+-- the given edges: for the points, the spans, the ties; the number of each is its place
 unfoldable pub given : Card → List Edge
 given card = point-edges card (card .points - 1) ++ (span-edges card (spanCount card) ++ tie-edges card (tieCount card))
 
@@ -50,13 +53,16 @@ all-known card steps = known card steps (length steps)
 
 -- ---- lawful steps
 
--- The step makes its edge by its rule from edges with lower numbers; R and M repeat the left number as the right; the weight is in range.
 pub record LawfulStep (card : Card) (edges : List Edge) (step : Step) : Type 0 where
+  -- the left and the right edge are known
   pub left-known : step .left < length edges
   pub right-known : step .right < length edges
+  -- the rule of its letter makes its edge of them
   pub by-rule : Rule card (step .letter) (getD edges (step .left) (step .makes)) (getD edges (step .right) (step .makes)) (step .makes)
+  -- R and M repeat the left number as the right
   pub repeats-R : step .letter ≡ 82 → step .right ≡ step .left
   pub repeats-M : step .letter ≡ 77 → step .right ≡ step .left
+  -- the weight is in range
   pub in-range : InRange (step .makes)
 
 -- the step at i is lawful
@@ -83,12 +89,12 @@ pub record Closing (steps : List Step) : Type 0 where
 pub data Answer : Type 0 where
   -- the list passes
   passes : Answer
-  -- 17, with the place of the first unlawful step
+  -- the first unlawful step stands at this place, counted from 0
   unlawful : ℕ → Answer
-  -- 18: there is no closing loop
+  -- every step is lawful, but the list does not close
   no-loop : Answer
 
--- `Reads card steps answer`: this is the answer
+-- `Reads card steps answer`: this is the answer to the list.
 abbrev pub Reads : Card → List Step → Answer → Type 0
 Reads card steps passes = AllLawful card steps × Closing steps
 Reads card steps (unlawful i) = (i < length steps) × LawfulTo card steps i × (LawfulAt card steps i → ⊥)

@@ -1,4 +1,4 @@
--- What is proved of the rules.
+-- What is proved of the rules. Each statement is the contract of a function in src/theorems.rt.
 use Prim.Native.Nat.{ℕ, suc, _+_, _≤_, _<_}
 use mathlib.Core.Path.{_≡_}
 use mathlib.Core.Logic.{_⊎_, _↔_}
@@ -33,7 +33,7 @@ Lists-tell = (card : Card) → WellMade card → (steps : List Step) → Reads c
 abbrev pub Tables-win : Type 0
 Tables-win = (card : Card) (D W : Table) → WellMade card → Closed card D W → SoundAtStart card D W → Good card
 
--- Closed tables whose entries are derived are sound at the start exactly if the controller can win.
+-- Closed tables whose entries are derived are sound at the start exactly if the controller can win: so they tell the mark.
 abbrev pub Marks-exact : Type 0
 Marks-exact = (card : Card) (D W : Table) → WellMade card → Closed card D W → Traced card D W → Good card ↔ SoundAtStart card D W
 
