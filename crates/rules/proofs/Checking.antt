@@ -1,12 +1,12 @@
 -- Tests that compute: a card is well made, tables are closed and sound at the start, a list passes.
 use Prim.Native.Nat.{ℕ, zero, suc, _-_, _<_}
-use mathlib.Core.Path.{_≡_, sym, subst}
+use mathlib.Core.Path.{sym, subst}
 use mathlib.Core.Logic.{_≢_}
 use mathlib.Core.Bool.{Bool, true, not, _&&_}
 use mathlib.Core.List.{List, [], _∷_}
 use native.Mathlib.Omega.{arith}
 use native.Mathlib.Decide.{ℕ-discrete}
-use lib.Dec.{T, eqb, leb, ltb, eqb→eq, eqb-refl, leb→le, ltb→lt, not-T}
+use lib.Dec.{T, eqb, leb, ltb, eqb→eq, leb→le, ltb→lt, not-T}
 use lib.ListN.{length, getD}
 use lib.IntN.{ℤ, pos, negℤ, _+ℤ_}
 use lib.Signed.{_≤ℤ_, leZ, ltZ, leZ-yes, ltZ-yes}
@@ -15,7 +15,7 @@ use Rattle.rules.specs.declared.edges.Step.{Step}
 use Rattle.rules.specs.Steps.{stepAt, known, passes, Reads}
 use Rattle.rules.specs.Game.{Good}
 use Rattle.rules.specs.Tables.{Table, SoundAtStart}
-use Rattle.rules.proofs.Basics.{and-left, and-right}
+use Rattle.rules.proofs.Basics.{and-left, and-right, eq-test}
 use Rattle.rules.proofs.Listed.{lists-tell}
 use Rattle.rules.proofs.Closure.{Rulewise, closed-by}
 use Rattle.rules.proofs.Deciding.{Tested, early, released, implies, implies-out, lawful?, lawful-is}
@@ -45,9 +45,6 @@ unfolding all-of
 nth [] h i = tt
 nth (b ∷ bs) h zero = and-left b (all-of bs) h
 nth (b ∷ bs) h (suc i) = nth bs (and-right b (all-of bs) h) i
-
-same : {a b : ℕ} → a ≡ b → T (eqb a b)
-same {a} {b} e = subst (λ x. T (eqb a x)) e (eqb-refl a)
 
 apart : {a b : ℕ} → a ≢ b → T (not (eqb a b))
 apart {a} {b} n = not-T (eqb a b) (λ h. n (eqb→eq a b h))
@@ -110,7 +107,7 @@ module _ (c : Card) where
     start-in = λ s lt. ltb→lt _ _ (at-each _ start-in? (nth card-tests h 3) s lt);
     finish-in = λ s lt. ltb→lt _ _ (at-each _ finish-in? (nth card-tests h 4) s lt);
     finish-later = λ s lt. ltb→lt _ _ (at-each _ finish-later? (nth card-tests h 5) s lt);
-    finish-apart = λ s r ls lr e. eqb→eq s r (implies-out (eqb (finishOf c s) (finishOf c r)) (eqb s r) (at-each _ (finish-apart? s) (at-each _ finishes-apart? (nth card-tests h 6) s ls) r lr) (same e));
+    finish-apart = λ s r ls lr e. eqb→eq s r (implies-out (eqb (finishOf c s) (finishOf c r)) (eqb s r) (at-each _ (finish-apart? s) (at-each _ finishes-apart? (nth card-tests h 6) s ls) r lr) (eq-test e));
     from-in = λ i lt. ltb→lt _ _ (at-each _ from-in? (nth card-tests h 7) i lt);
     to-in = λ i lt. ltb→lt _ _ (at-each _ to-in? (nth card-tests h 8) i lt);
   }
@@ -226,7 +223,7 @@ module _ (c : Card) (D W : Table) where
   unfolding winning?
   start-sound h = record {
     ahead = λ p lt. leZ-yes (at-each _ ahead? (nth table-tests h 11) p lt);
-    started = λ s lt e. leZ-yes (implies-out (eqb (startOf c s) 0) _ (at-each _ started? (nth table-tests h 12) s lt) (same e));
+    started = λ s lt e. leZ-yes (implies-out (eqb (startOf c s) 0) _ (at-each _ started? (nth table-tests h 12) s lt) (eq-test e));
     waiting = λ s lt n. released c s (W s 0) .passed (implies-out (not (eqb (startOf c s) 0)) _ (at-each _ waiting? (nth table-tests h 13) s lt) (apart n));
   }
 

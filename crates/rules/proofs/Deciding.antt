@@ -19,7 +19,7 @@ use Rattle.rules.specs.Edges.{edge, Early, Released, Rule, rule-N, rule-U, rul
 use Rattle.rules.specs.declared.edges.Step.{Step}
 use Rattle.rules.specs.Steps.{stepAt, known, LawfulStep, LawfulAt, LawfulTo, Closing, passes, unlawful, no-loop}
 use Rattle.rules.specs.Theorems.{Some-answer}
-use Rattle.rules.proofs.Basics.{and-left, and-right, and-both, or-cases, or-left, or-right, decide}
+use Rattle.rules.proofs.Basics.{and-left, and-right, and-both, or-cases, or-left, or-right, eq-test, decide}
 
 -- ---- edges that are the same
 
@@ -196,7 +196,7 @@ module _ (card : Card) (e f g : Edge) where
       (or-cases (eqb c 77 && Mw?) _ h6)) (or-cases (eqb c 77 && M?) _ h5)) (or-cases (eqb c 82 && R?) _ h4)) (or-cases (eqb c 88 && X?) _ h3)) (or-cases (eqb c 76 && L?) _ h2)) (or-cases (eqb c 85 && U?) _ h1)) (or-cases (eqb c 78 && N?) _ h0)
     where
       apart : {a b : ℕ} → T (not (eqb a b)) → a ≢ b
-      apart {a} {b} h e = T-not (eqb a b) h (subst (λ x. T (eqb a x)) e (eqb-refl a))
+      apart {a} {b} h e = T-not (eqb a b) h (eq-test e)
 
 pub is-rule : (card : Card) {c : ℕ} {e f g : Edge} → Rule card c e f g → T (rule? card e f g c)
 unfolding rule? span-of
@@ -252,10 +252,10 @@ module _ (card : Card) (es : List Edge) (step : Step) where
   lawful? = left-known? && (right-known? && (by-rule? && (repeats? 82 && (repeats? 77 && (low? && high?)))))
 
   repeats-is : (c : ℕ) → T (repeats? c) → step .letter ≡ c → step .right ≡ step .left
-  repeats-is c h e = eqb→eq (step .right) (step .left) (implies-out (eqb (step .letter) c) _ h (subst (λ x. T (eqb (step .letter) x)) e (eqb-refl (step .letter))))
+  repeats-is c h e = eqb→eq (step .right) (step .left) (implies-out (eqb (step .letter) c) _ h (eq-test e))
 
   is-repeats : (c : ℕ) → (step .letter ≡ c → step .right ≡ step .left) → T (repeats? c)
-  is-repeats c f = implies-in (eqb (step .letter) c) _ (λ h. subst (λ x. T (eqb x (step .left))) (sym (f (eqb→eq (step .letter) c h))) (eqb-refl (step .left)))
+  is-repeats c f = implies-in (eqb (step .letter) c) _ (λ h. eq-test (f (eqb→eq (step .letter) c h)))
 
   pub lawful-is : T lawful? → LawfulStep card es step
   unfolding lawful?
@@ -308,7 +308,7 @@ closing? steps =
       negative = ltZ-yes (and-right itself _ (and-right some _ h));
     }))
     (λ h. inr (λ c. h (and-both some _ (lt→ltb 0 (length steps) (c .some-step))
-    (and-both itself _ (subst (λ x. T (eqb (last .source) x)) (c .itself) (eqb-refl (last .source))) (c .negative .lt)))))
+    (and-both itself _ (eq-test (c .itself)) (c .negative .lt)))))
     (decide (some && (itself && ltZ (last .weight) (pos 0))))
   where
     last : Edge

@@ -15,69 +15,66 @@ use Rattle.rules.proofs.Checking.{every, all-of, well-made?, winning?, good-by
 unfoldable pub rows : List (List ℤ) → Table
 rows ws p q = getD (getD ws p []) q (pos 0)
 
-alone-good : Stands (good alone)
-unfolding rows every all-of less at-most early released implies well-made? winning? spanCount tieCount startOf finishOf leastOf mostOf fromOf toOf gapOf
-alone-good = good-by alone (rows []) (rows []) tt tt
+-- ---- by tables
 
-one-span-good : Stands (good (one-span 5))
-unfolding rows every all-of less at-most early released implies well-made? winning? spanCount tieCount startOf finishOf leastOf mostOf fromOf toOf gapOf
-one-span-good = good-by (one-span 5)
-    (rows ((pos 0 ∷ pos 0 ∷ pos 5 ∷ []) ∷ (pos 0 ∷ pos 0 ∷ pos 5 ∷ []) ∷ (negsuc 1 ∷ negsuc 1 ∷ pos 0 ∷ []) ∷ []))
-    (rows ((pos 0 ∷ pos 0 ∷ negsuc 4 ∷ []) ∷ [])) tt tt
+abbrev GoodOnes : Type 0
+GoodOnes =
+    Stands (good alone)
+    × Stands (good (one-span 5))
+    × Stands (good (with-order (tie 1 2 (pos 0) ∷ tie 2 1 (pos 0) ∷ [])))
+    × Stands (good (with-order (tie 1 2 (negsuc 0) ∷ [])))
+    × Stands (good (with-order (tie 1 2 (negsuc 0) ∷ tie 2 1 (pos 2) ∷ [])))
+    × Stands (good (bread 20))
 
-with-order-at-once-good : Stands (good (with-order (tie 1 2 (pos 0) ∷ tie 2 1 (pos 0) ∷ [])))
+good-ones : GoodOnes
 unfolding rows every all-of less at-most early released implies well-made? winning? spanCount tieCount startOf finishOf leastOf mostOf fromOf toOf gapOf
-with-order-at-once-good = good-by (with-order (tie 1 2 (pos 0) ∷ tie 2 1 (pos 0) ∷ []))
-    (rows ((pos 0 ∷ pos 3 ∷ pos 3 ∷ []) ∷ (negsuc 1 ∷ pos 0 ∷ pos 0 ∷ []) ∷ (negsuc 1 ∷ pos 0 ∷ pos 0 ∷ []) ∷ []))
-    (rows ((pos 0 ∷ negsuc 2 ∷ negsuc 2 ∷ []) ∷ [])) tt tt
+good-ones = (
+  good-by _ (rows []) (rows []) tt tt,
+  good-by _
+      (rows ((pos 0 ∷ pos 0 ∷ pos 5 ∷ []) ∷ (pos 0 ∷ pos 0 ∷ pos 5 ∷ []) ∷ (negsuc 1 ∷ negsuc 1 ∷ pos 0 ∷ []) ∷ []))
+      (rows ((pos 0 ∷ pos 0 ∷ negsuc 4 ∷ []) ∷ [])) tt tt,
+  good-by _
+      (rows ((pos 0 ∷ pos 3 ∷ pos 3 ∷ []) ∷ (negsuc 1 ∷ pos 0 ∷ pos 0 ∷ []) ∷ (negsuc 1 ∷ pos 0 ∷ pos 0 ∷ []) ∷ []))
+      (rows ((pos 0 ∷ negsuc 2 ∷ negsuc 2 ∷ []) ∷ [])) tt tt,
+  good-by _
+      (rows ((pos 0 ∷ pos 3 ∷ pos 1 ∷ []) ∷ (negsuc 1 ∷ pos 0 ∷ negsuc 0 ∷ []) ∷ (pos 0 ∷ pos 3 ∷ pos 0 ∷ []) ∷ []))
+      (rows ((pos 0 ∷ negsuc 2 ∷ pos 0 ∷ []) ∷ [])) tt tt,
+  good-by _
+      (rows ((pos 0 ∷ pos 3 ∷ pos 1 ∷ []) ∷ (negsuc 1 ∷ pos 0 ∷ negsuc 0 ∷ []) ∷ (negsuc 0 ∷ pos 2 ∷ pos 0 ∷ []) ∷ []))
+      (rows ((pos 0 ∷ negsuc 2 ∷ negsuc 0 ∷ []) ∷ [])) tt tt,
+  good-by _
+      (rows
+      ((pos 0 ∷ pos 30 ∷ pos 60 ∷ pos 60 ∷ pos 40 ∷ [])
+      ∷ (pos 0 ∷ pos 0 ∷ pos 30 ∷ pos 30 ∷ pos 10 ∷ [])
+      ∷ (negsuc 19 ∷ negsuc 19 ∷ pos 0 ∷ pos 5 ∷ negsuc 9 ∷ [])
+      ∷ (negsuc 24 ∷ negsuc 24 ∷ pos 0 ∷ pos 0 ∷ negsuc 14 ∷ [])
+      ∷ (negsuc 9 ∷ negsuc 9 ∷ pos 20 ∷ pos 20 ∷ pos 0 ∷ []) ∷ []))
+      (rows ((pos 30 ∷ pos 0 ∷ negsuc 29 ∷ negsuc 29 ∷ negsuc 9 ∷ []) ∷ [])) tt tt,
+)
 
-with-order-before-good : Stands (good (with-order (tie 1 2 (negsuc 0) ∷ [])))
-unfolding rows every all-of less at-most early released implies well-made? winning? spanCount tieCount startOf finishOf leastOf mostOf fromOf toOf gapOf
-with-order-before-good = good-by (with-order (tie 1 2 (negsuc 0) ∷ []))
-    (rows ((pos 0 ∷ pos 3 ∷ pos 1 ∷ []) ∷ (negsuc 1 ∷ pos 0 ∷ negsuc 0 ∷ []) ∷ (pos 0 ∷ pos 3 ∷ pos 0 ∷ []) ∷ []))
-    (rows ((pos 0 ∷ negsuc 2 ∷ pos 0 ∷ []) ∷ [])) tt tt
+-- ---- by steps
 
-with-order-near-good : Stands (good (with-order (tie 1 2 (negsuc 0) ∷ tie 2 1 (pos 2) ∷ [])))
-unfolding rows every all-of less at-most early released implies well-made? winning? spanCount tieCount startOf finishOf leastOf mostOf fromOf toOf gapOf
-with-order-near-good = good-by (with-order (tie 1 2 (negsuc 0) ∷ tie 2 1 (pos 2) ∷ []))
-    (rows ((pos 0 ∷ pos 3 ∷ pos 1 ∷ []) ∷ (negsuc 1 ∷ pos 0 ∷ negsuc 0 ∷ []) ∷ (negsuc 0 ∷ pos 2 ∷ pos 0 ∷ []) ∷ []))
-    (rows ((pos 0 ∷ negsuc 2 ∷ negsuc 0 ∷ []) ∷ [])) tt tt
+abbrev BadOnes : Type 0
+BadOnes =
+    Stands (bad (one-span 4))
+    × Stands (bad (with-order (tie 1 2 (negsuc 0) ∷ tie 2 1 (pos 1) ∷ [])))
+    × Stands (bad far-orders)
+    × Stands (bad (bread 19))
+    × Stands (reads (bread 19) bread-steps passes)
 
-bread-good : Stands (good (bread 20))
-unfolding rows every all-of less at-most early released implies well-made? winning? spanCount tieCount startOf finishOf leastOf mostOf fromOf toOf gapOf
-bread-good = good-by (bread 20)
-    (rows
-    ((pos 0 ∷ pos 30 ∷ pos 60 ∷ pos 60 ∷ pos 40 ∷ [])
-    ∷ (pos 0 ∷ pos 0 ∷ pos 30 ∷ pos 30 ∷ pos 10 ∷ [])
-    ∷ (negsuc 19 ∷ negsuc 19 ∷ pos 0 ∷ pos 5 ∷ negsuc 9 ∷ [])
-    ∷ (negsuc 24 ∷ negsuc 24 ∷ pos 0 ∷ pos 0 ∷ negsuc 14 ∷ [])
-    ∷ (negsuc 9 ∷ negsuc 9 ∷ pos 20 ∷ pos 20 ∷ pos 0 ∷ []) ∷ []))
-    (rows ((pos 30 ∷ pos 0 ∷ negsuc 29 ∷ negsuc 29 ∷ negsuc 9 ∷ []) ∷ [])) tt tt
-
--- N 1 2, U 8 7
-one-span-bad : Stands (bad (one-span 4))
+-- N 1 2, U 8 7; L 6 8, U 9 7, R 11 11, N 10 12; N 4 5; and the steps of bread
+bad-ones : BadOnes
 unfolding every all-of less at-most early released implies well-made? passing? spanCount tieCount startOf finishOf leastOf mostOf fromOf toOf gapOf point-edges span-edges tie-edges given stepAt known same-kind same-weight same-edge instance span-of rule? lawful?
-one-span-bad = bad-by (one-span 4) (step 78 1 2 Plain 1 2 (pos 4) ∷ step 85 8 7 (Wait 0) 1 1 (negsuc 0) ∷ []) tt tt
-
--- L 6 8, U 9 7, R 11 11, N 10 12
-with-order-bad : Stands (bad (with-order (tie 1 2 (negsuc 0) ∷ tie 2 1 (pos 1) ∷ [])))
-unfolding every all-of less at-most early released implies well-made? passing? spanCount tieCount startOf finishOf leastOf mostOf fromOf toOf gapOf point-edges span-edges tie-edges given stepAt known same-kind same-weight same-edge instance span-of rule? lawful?
-with-order-bad = bad-by (with-order (tie 1 2 (negsuc 0) ∷ tie 2 1 (pos 1) ∷ []))
-    (step 76 6 8 Plain 0 2 (pos 1) ∷ step 85 9 7 (Wait 0) 2 0 (negsuc 1) ∷ step 82 11 11 Plain 2 0 (negsuc 1) ∷ step 78 10 12 Plain 0 0 (negsuc 0) ∷ []) tt tt
-
--- N 4 5
-far-orders-bad : Stands (bad far-orders)
-unfolding every all-of less at-most early released implies well-made? passing? spanCount tieCount startOf finishOf leastOf mostOf fromOf toOf gapOf point-edges span-edges tie-edges given stepAt known same-kind same-weight same-edge instance span-of rule? lawful?
-far-orders-bad = bad-by far-orders (step 78 4 5 Plain 1 1 (negsuc 0) ∷ []) tt tt
-
-bread-bad : Stands (bad (bread 19))
-unfolding every all-of less at-most early released implies well-made? passing? spanCount tieCount startOf finishOf leastOf mostOf fromOf toOf gapOf point-edges span-edges tie-edges given stepAt known same-kind same-weight same-edge instance span-of rule? lawful?
-bread-bad = bad-by (bread 19) bread-steps tt tt
-
-bread-passes : Stands (reads (bread 19) bread-steps passes)
-unfolding every all-of less at-most early released implies well-made? passing? spanCount tieCount startOf finishOf leastOf mostOf fromOf toOf gapOf point-edges span-edges tie-edges given stepAt known same-kind same-weight same-edge instance span-of rule? lawful?
-bread-passes = passing-is (bread 19) bread-steps tt
+bad-ones = (
+  bad-by _ (step 78 1 2 Plain 1 2 (pos 4) ∷ step 85 8 7 (Wait 0) 1 1 (negsuc 0) ∷ []) tt tt,
+  bad-by _ (step 76 6 8 Plain 0 2 (pos 1) ∷ step 85 9 7 (Wait 0) 2 0 (negsuc 1) ∷ step 82 11 11 Plain 2 0 (negsuc 1) ∷ step 78 10 12 Plain 0 0 (negsuc 0) ∷ []) tt tt,
+  bad-by _ (step 78 4 5 Plain 1 1 (negsuc 0) ∷ []) tt tt,
+  bad-by _ bread-steps tt tt,
+  passing-is _ bread-steps tt,
+)
 
 pub examples-stand : Examples-stand
 examples-stand =
-    (alone-good, (one-span-good, (one-span-bad, (with-order-at-once-good, (with-order-before-good, (with-order-bad, (with-order-near-good, (far-orders-bad, (bread-good, (bread-bad, (bread-passes, tt)))))))))))
+    let g = good-ones in
+    let b = bad-ones in
+    (g .0, (g .1, (b .0, (g .2, (g .3, (b .1, (g .4, (b .2, (g .5, (b .3, (b .4, tt)))))))))))
