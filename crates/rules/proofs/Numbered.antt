@@ -1,17 +1,14 @@
 -- The numbered edges are the given edges.
 use Prim.Native.Nat.{ℕ, zero, suc, _-_, _≤_, _<_}
-use mathlib.Core.Path.{refl}
-use mathlib.Core.List.{[], _∷_}
+use mathlib.Core.Path.{refl, subst}
 use native.Mathlib.Omega.{arith}
 use native.Mathlib.Decide.{ℕ-discrete}
-use lib.IntN.{pos, negℤ}
 use Rattle.std.specs.shelf.Lists.{All, Has}
 use Rattle.std.proofs.shelf.Elements.{all-append, all-has, has-append-left, has-append-right}
-use Rattle.rules.specs.Card.{Card, WellMade, spanCount, tieCount, startOf, finishOf, leastOf, mostOf, fromOf, toOf, gapOf}
-use Rattle.rules.specs.declared.edges.Kind.the-variants.{Plain, Lower, Wait}
+use Rattle.rules.specs.Card.{Card, WellMade, spanCount, tieCount}
 use Rattle.rules.specs.declared.edges.Edge.{Edge}
-use Rattle.rules.specs.Edges.{edge, Given, given-late, given-early, given-most, given-least, given-lower, given-wait, given-tie}
-use Rattle.rules.specs.Steps.{point-edges, span-edges, tie-edges, given}
+use Rattle.rules.specs.Edges.{Given, given-late, given-early, given-most, given-least, given-lower, given-wait, given-tie}
+use Rattle.rules.specs.Steps.{of-point, of-span, of-tie, point-edges, span-edges, tie-edges, given}
 use Rattle.rules.specs.Theorems.{Given-numbered}
 
 module _ (card : Card) where
@@ -40,67 +37,55 @@ module _ (card : Card) where
 
   -- ---- each given edge is numbered
 
-  point-has : (n p : ℕ) → 0 < p → p ≤ n → Has (point-edges card n) (edge Plain 0 p (pos (card .horizon))) × Has (point-edges card n) (edge Plain p 0 (pos 0))
+  point-has : (e : Edge) (p : ℕ) → Has (of-point card p) e → (n : ℕ) → 0 < p → p ≤ n → Has (point-edges card n) e
   unfolding point-edges
-  point-has zero p h k = absurd (omega arith)
-  point-has (suc n) p h k =
+  point-has e p h zero low high = absurd (omega arith)
+  point-has e p h (suc n) low high =
       elim (ℕ-discrete p (suc n)) [
-        | yes e ↦ rw e (has-append-right (point-edges card n) _ _ (0, omega arith, λ d. refl), has-append-right (point-edges card n) _ _ (1, omega arith, λ d. refl))
-        | no d ↦ let r = point-has n p h (omega arith) in (has-append-left (point-edges card n) _ _ (r .0), has-append-left (point-edges card n) _ _ (r .1))
+        | yes q ↦ has-append-right (point-edges card n) _ e (subst (λ r. Has (of-point card r) e) q h)
+        | no q ↦ has-append-left (point-edges card n) _ e (point-has e p h n low (omega arith))
       ]
 
-  -- the k-th of the four edges of span s
-  abbrev of-span : ℕ → ℕ → Edge
-  of-span s zero = edge Plain (startOf card s) (finishOf card s) (pos (mostOf card s))
-  of-span s (suc zero) = edge Plain (finishOf card s) (startOf card s) (negℤ (pos (leastOf card s)))
-  of-span s (suc (suc zero)) = edge (Lower s) (startOf card s) (finishOf card s) (pos (leastOf card s))
-  of-span s (suc (suc (suc k))) = edge (Wait s) (finishOf card s) (startOf card s) (negℤ (pos (mostOf card s)))
-
-  span-has : (k : ℕ) → k < 4 → (n s : ℕ) → s < n → Has (span-edges card n) (of-span s k)
+  span-has : (e : Edge) (s : ℕ) → Has (of-span card s) e → (n : ℕ) → s < n → Has (span-edges card n) e
   unfolding span-edges
-  span-has k l zero s h = absurd (omega arith)
-  span-has k l (suc n) s h =
+  span-has e s h zero high = absurd (omega arith)
+  span-has e s h (suc n) high =
       elim (ℕ-discrete s n) [
-        | yes e ↦ rw e (has-append-right (span-edges card n) _ _ (here k l))
-        | no d ↦ has-append-left (span-edges card n) _ _ (span-has k l n s (omega arith))
+        | yes q ↦ has-append-right (span-edges card n) _ e (subst (λ r. Has (of-span card r) e) q h)
+        | no q ↦ has-append-left (span-edges card n) _ e (span-has e s h n (omega arith))
       ]
-    where
-      here : (k : ℕ) → k < 4 → Has (of-span n 0 ∷ of-span n 1 ∷ of-span n 2 ∷ of-span n 3 ∷ []) (of-span n k)
-      here zero l = (0, omega arith, λ d. refl)
-      here (suc zero) l = (1, omega arith, λ d. refl)
-      here (suc (suc zero)) l = (2, omega arith, λ d. refl)
-      here (suc (suc (suc zero))) l = (3, omega arith, λ d. refl)
-      here (suc (suc (suc (suc k)))) l = absurd (omega arith)
 
-  tie-has : (n i : ℕ) → i < n → Has (tie-edges card n) (edge Plain (fromOf card i) (toOf card i) (gapOf card i))
+  tie-has : (e : Edge) (i : ℕ) → Has (of-tie card i) e → (n : ℕ) → i < n → Has (tie-edges card n) e
   unfolding tie-edges
-  tie-has zero i h = absurd (omega arith)
-  tie-has (suc n) i h =
+  tie-has e i h zero high = absurd (omega arith)
+  tie-has e i h (suc n) high =
       elim (ℕ-discrete i n) [
-        | yes e ↦ rw e (has-append-right (tie-edges card n) _ _ (0, omega arith, λ d. refl))
-        | no d ↦ has-append-left (tie-edges card n) _ _ (tie-has n i (omega arith))
+        | yes q ↦ has-append-right (tie-edges card n) _ e (subst (λ r. Has (of-tie card r) e) q h)
+        | no q ↦ has-append-left (tie-edges card n) _ e (tie-has e i h n (omega arith))
       ]
 
-  among-points : (e : Edge) → Has (point-edges card (card .points - 1)) e → Has (given card) e
+  of-a-point : (e : Edge) (p : ℕ) → 0 < p → p < card .points → Has (of-point card p) e → Has (given card) e
   unfolding given
-  among-points e h = has-append-left (point-edges card (card .points - 1)) _ e h
+  of-a-point e p low high h = has-append-left (point-edges card (card .points - 1)) _ e (point-has e p h (card .points - 1) low (omega arith))
 
-  among-spans : (e : Edge) → Has (span-edges card (spanCount card)) e → Has (given card) e
+  of-a-span : (e : Edge) (s : ℕ) → s < spanCount card → Has (of-span card s) e → Has (given card) e
   unfolding given
-  among-spans e h = has-append-right (point-edges card (card .points - 1)) _ e (has-append-left (span-edges card (spanCount card)) _ e h)
+  of-a-span e s high h =
+      has-append-right (point-edges card (card .points - 1)) _ e (has-append-left (span-edges card (spanCount card)) _ e (span-has e s h (spanCount card) high))
 
-  among-ties : (e : Edge) → Has (tie-edges card (tieCount card)) e → Has (given card) e
+  of-a-tie : (e : Edge) (i : ℕ) → i < tieCount card → Has (of-tie card i) e → Has (given card) e
   unfolding given
-  among-ties e h = has-append-right (point-edges card (card .points - 1)) _ e (has-append-right (span-edges card (spanCount card)) _ e h)
+  of-a-tie e i high h =
+      has-append-right (point-edges card (card .points - 1)) _ e (has-append-right (span-edges card (spanCount card)) _ e (tie-has e i h (tieCount card) high))
 
   pub numbered : {e : Edge} → Given card e → Has (given card) e
-  numbered (given-late p h k) = among-points _ (point-has (card .points - 1) p h (omega arith) .0)
-  numbered (given-early p h k) = among-points _ (point-has (card .points - 1) p h (omega arith) .1)
-  numbered (given-most s h) = among-spans _ (span-has 0 (omega arith) (spanCount card) s h)
-  numbered (given-least s h) = among-spans _ (span-has 1 (omega arith) (spanCount card) s h)
-  numbered (given-lower s h) = among-spans _ (span-has 2 (omega arith) (spanCount card) s h)
-  numbered (given-wait s h) = among-spans _ (span-has 3 (omega arith) (spanCount card) s h)
-  numbered (given-tie i h) = among-ties _ (tie-has (tieCount card) i h)
+  numbered (given-late p low high) = of-a-point _ p low high (0, omega arith, λ d. refl)
+  numbered (given-early p low high) = of-a-point _ p low high (1, omega arith, λ d. refl)
+  numbered (given-most s high) = of-a-span _ s high (0, omega arith, λ d. refl)
+  numbered (given-least s high) = of-a-span _ s high (1, omega arith, λ d. refl)
+  numbered (given-lower s high) = of-a-span _ s high (2, omega arith, λ d. refl)
+  numbered (given-wait s high) = of-a-span _ s high (3, omega arith, λ d. refl)
+  numbered (given-tie i high) = of-a-tie _ i high (0, omega arith, λ d. refl)
 
 pub given-numbered : Given-numbered
 given-numbered card made e = (numbered card, all-has (Given card) (given card) e (all-given card made))

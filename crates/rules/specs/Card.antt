@@ -2,11 +2,13 @@
 -- within a number of minutes, what is up to the controller, who gives orders, and what to the kitchen, which lets spans take their time.
 use Prim.Native.Nat.{ℕ, zero, suc, _≤_, _<_}
 use mathlib.Core.Path.{_≡_}
-use mathlib.Core.Bool.{Bool, true, false, _&&_, _||_}
+use mathlib.Core.Bool.{Bool, true, false, cond, _&&_, _||_}
 use mathlib.Core.List.{List}
-use lib.Dec.{eqb}
+use lib.Dec.{eqb, ltb}
 use lib.ListN.{length, getD}
 use lib.IntN.{ℤ, pos}
+use Rattle.std.specs.declared.option.Option.{Option}
+use Rattle.std.specs.declared.option.Option.the-variants.{Some, None}
 use Rattle.rules.specs.declared.parts.Span.{Span}
 use Rattle.rules.specs.declared.parts.Tie.{Tie}
 
@@ -62,6 +64,13 @@ toOf card i = getD (card .ties) i no-tie .to
 -- how far the second point of tie i may come after the first
 unfoldable pub gapOf : Card → ℕ → ℤ
 gapOf card i = getD (card .ties) i no-tie .gap
+
+-- span s, and tie i, where there is one
+unfoldable pub spanAt : Card → ℕ → Option Span
+spanAt card s = cond (ltb s (spanCount card)) (Some (getD (card .spans) s no-span)) None
+
+unfoldable pub tieAt : Card → ℕ → Option Tie
+tieAt card i = cond (ltb i (tieCount card)) (Some (getD (card .ties) i no-tie)) None
 
 -- ---- finishes and orders
 

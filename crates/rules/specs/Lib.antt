@@ -1,5 +1,6 @@
 pub mod Refusals
 pub mod Card
+pub mod Calls
 pub mod Edges
 pub mod Steps
 pub mod Game

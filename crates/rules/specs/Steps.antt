@@ -2,10 +2,14 @@
 use Prim.Native.Nat.{ℕ, zero, suc, _-_, _<_}
 use mathlib.Core.Path.{_≡_}
 use mathlib.Core.List.{List, [], _∷_, _++_}
+use mathlib.Core.Bool.{cond}
+use lib.Dec.{ltb}
 use lib.ListN.{length, getD}
 use lib.IntN.{pos, negℤ}
 use lib.Signed.{_<ℤ_}
 use Rattle.rules.specs.Card.{Card, spanCount, tieCount, startOf, finishOf, leastOf, mostOf, fromOf, toOf, gapOf}
+use Rattle.std.specs.declared.option.Option.{Option}
+use Rattle.std.specs.declared.option.Option.the-variants.{Some, None}
 use Rattle.rules.specs.declared.edges.Kind.the-variants.{Plain, Lower, Wait}
 use Rattle.rules.specs.declared.edges.Edge.{Edge}
 use Rattle.rules.specs.declared.edges.Step.{Step}
@@ -13,34 +17,51 @@ use Rattle.rules.specs.Edges.{edge, Rule, InRange}
 
 -- ---- the numbers of edges: first the given ones, counted from 0, then those that the steps make
 
--- the given edges for the points 1 to n: the point happens in the minutes 0 to H
-unfoldable pub point-edges : Card → ℕ → List Edge
-point-edges card zero = []
-point-edges card (suc n) = point-edges card n ++ (edge Plain 0 (suc n) (pos (card .horizon)) ∷ edge Plain (suc n) 0 (pos 0) ∷ [])
+-- of a point after 0: it happens in the minutes 0 to H
+abbrev pub of-point : Card → ℕ → List Edge
+of-point card p = edge Plain 0 p (pos (card .horizon)) ∷ edge Plain p 0 (pos 0) ∷ []
 
--- for the first spans: each lasts at most its most, at least its least; its lower edge, and its wait
-unfoldable pub span-edges : Card → ℕ → List Edge
-span-edges card zero = []
-span-edges card (suc s) =
-    span-edges card s
-    ++ (edge Plain (startOf card s) (finishOf card s) (pos (mostOf card s))
+-- of a span: it lasts at most its most, and at least its least; its lower edge, and its wait
+abbrev pub of-span : Card → ℕ → List Edge
+of-span card s =
+    edge Plain (startOf card s) (finishOf card s) (pos (mostOf card s))
     ∷ edge Plain (finishOf card s) (startOf card s) (negℤ (pos (leastOf card s)))
     ∷ edge (Lower s) (startOf card s) (finishOf card s) (pos (leastOf card s))
     ∷ edge (Wait s) (finishOf card s) (startOf card s) (negℤ (pos (mostOf card s)))
-    ∷ [])
+    ∷ []
 
--- for the first ties
+-- of a tie
+abbrev pub of-tie : Card → ℕ → List Edge
+of-tie card i = edge Plain (fromOf card i) (toOf card i) (gapOf card i) ∷ []
+
+-- of the points 1 to n, of the first n spans, of the first n ties
+unfoldable pub point-edges : Card → ℕ → List Edge
+point-edges card zero = []
+point-edges card (suc n) = point-edges card n ++ of-point card (suc n)
+
+unfoldable pub span-edges : Card → ℕ → List Edge
+span-edges card zero = []
+span-edges card (suc s) = span-edges card s ++ of-span card s
+
 unfoldable pub tie-edges : Card → ℕ → List Edge
 tie-edges card zero = []
-tie-edges card (suc i) = tie-edges card i ++ (edge Plain (fromOf card i) (toOf card i) (gapOf card i) ∷ [])
+tie-edges card (suc i) = tie-edges card i ++ of-tie card i
 
--- the given edges: for the points, the spans, the ties; the number of each is its place
+-- the given edges: of the points, the spans, the ties; the number of each is its place here
 unfoldable pub given : Card → List Edge
 given card = point-edges card (card .points - 1) ++ (span-edges card (spanCount card) ++ tie-edges card (tieCount card))
 
+-- what stands past the end of a list of edges; no meaning hangs on it
+abbrev pub no-edge : Edge
+no-edge = edge Plain 0 0 (pos 0)
+
+-- the edge of this number, where there is one
+unfoldable pub edgeAt : List Edge → ℕ → Option Edge
+edgeAt edges i = cond (ltb i (length edges)) (Some (getD edges i no-edge)) None
+
 -- the step at place i of a list, counted from 0; beyond its end one that is never lawful
 unfoldable pub stepAt : List Step → ℕ → Step
-stepAt steps i = getD steps i (record { letter = 0; left = 0; right = 0; makes = edge Plain 0 0 (pos 0) })
+stepAt steps i = getD steps i (record { letter = 0; left = 0; right = 0; makes = no-edge })
 
 -- the edges known when the step at i is read: the given ones, then those that the steps before it make
 unfoldable pub known : Card → List Step → ℕ → List Edge

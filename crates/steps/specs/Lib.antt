@@ -1,0 +1,3 @@
+pub mod Makes
+pub mod Reading
+pub mod Prints
