@@ -1,25 +1,25 @@
 -- Tests that compute: a card is well made, tables are closed and sound at the start, a list passes.
-use Prim.Native.Nat.{ℕ, zero, suc, _+_, _-_, _≤_, _<_}
-use mathlib.Core.Path.{_≡_, refl, sym, subst}
+use Prim.Native.Nat.{ℕ, zero, suc, _-_, _<_}
+use mathlib.Core.Path.{sym, subst}
 use mathlib.Core.Logic.{_≢_}
-use mathlib.Core.Bool.{Bool, true, false, not, _&&_, _||_}
+use mathlib.Core.Bool.{Bool, true, not, _&&_}
 use mathlib.Core.List.{List, [], _∷_}
 use native.Mathlib.Omega.{arith}
 use native.Mathlib.Decide.{ℕ-discrete}
-use lib.Dec.{T, eqb, leb, ltb, eqb→eq, eqb-refl, leb→le, ltb→lt, lt→ltb, not-T}
+use lib.Dec.{T, eqb, leb, ltb, eqb→eq, leb→le, ltb→lt, not-T}
 use lib.ListN.{length, getD}
 use lib.IntN.{ℤ, pos, negℤ, _+ℤ_}
-use lib.Signed.{_≤ℤ_, _<ℤ_, leZ, ltZ, leZ-yes, ltZ-yes}
+use lib.Signed.{_≤ℤ_, leZ, ltZ, leZ-yes, ltZ-yes}
 use Rattle.rules.specs.Card.{Card, WellMade, spanCount, tieCount, startOf, finishOf, leastOf, mostOf, fromOf, toOf, gapOf}
 use Rattle.rules.specs.declared.edges.Step.{Step}
-use Rattle.rules.specs.Steps.{stepAt, known, LawfulAt, LawfulTo, Closing, passes, Reads}
+use Rattle.rules.specs.Steps.{stepAt, known, passes, Reads}
 use Rattle.rules.specs.Game.{Good}
-use Rattle.rules.specs.Tables.{Table, Closed, SoundAtStart}
-use Rattle.rules.proofs.Basics.{and-left, and-right}
-use Rattle.rules.proofs.Closure.{Rulewise, closed-by}
-use Rattle.rules.proofs.Deciding.{implies, implies-out, lawful?, lawful-is}
-use Rattle.rules.proofs.Strategy.{tables-win}
+use Rattle.rules.specs.Tables.{Table, SoundAtStart}
+use Rattle.rules.proofs.Basics.{and-left, and-right, eq-test}
 use Rattle.rules.proofs.Listed.{lists-tell}
+use Rattle.rules.proofs.Closure.{Rulewise, closed-by}
+use Rattle.rules.proofs.Deciding.{Tested, early, released, implies, implies-out, lawful?, lawful-is}
+use Rattle.rules.proofs.Strategy.{tables-win}
 
 -- does f hold of every number below n?
 unfoldable pub every : ℕ → (ℕ → Bool) → Bool
@@ -45,9 +45,6 @@ unfolding all-of
 nth [] h i = tt
 nth (b ∷ bs) h zero = and-left b (all-of bs) h
 nth (b ∷ bs) h (suc i) = nth bs (and-right b (all-of bs) h) i
-
-same : {a b : ℕ} → a ≡ b → T (eqb a b)
-same {a} {b} e = subst (λ x. T (eqb a x)) e (eqb-refl a)
 
 apart : {a b : ℕ} → a ≢ b → T (not (eqb a b))
 apart {a} {b} n = not-T (eqb a b) (λ h. n (eqb→eq a b h))
@@ -110,18 +107,16 @@ module _ (c : Card) where
     start-in = λ s lt. ltb→lt _ _ (at-each _ start-in? (nth card-tests h 3) s lt);
     finish-in = λ s lt. ltb→lt _ _ (at-each _ finish-in? (nth card-tests h 4) s lt);
     finish-later = λ s lt. ltb→lt _ _ (at-each _ finish-later? (nth card-tests h 5) s lt);
-    finish-apart = λ s r ls lr e. eqb→eq s r (implies-out (eqb (finishOf c s) (finishOf c r)) (eqb s r) (at-each _ (finish-apart? s) (at-each _ finishes-apart? (nth card-tests h 6) s ls) r lr) (same e));
+    finish-apart = λ s r ls lr e. eqb→eq s r (implies-out (eqb (finishOf c s) (finishOf c r)) (eqb s r) (at-each _ (finish-apart? s) (at-each _ finishes-apart? (nth card-tests h 6) s ls) r lr) (eq-test e));
     from-in = λ i lt. ltb→lt _ _ (at-each _ from-in? (nth card-tests h 7) i lt);
     to-in = λ i lt. ltb→lt _ _ (at-each _ to-in? (nth card-tests h 8) i lt);
   }
 
 -- ---- tables are closed and sound at the start
 
-le-if : (a b x y : ℤ) → T (implies (leZ a b) (leZ x y)) → a ≤ℤ b → x ≤ℤ y
-le-if a b x y h l = leZ-yes (implies-out (leZ a b) (leZ x y) h (l .le))
-
-le-if-lt : (a b x y : ℤ) → T (implies (ltZ a b) (leZ x y)) → a <ℤ b → x ≤ℤ y
-le-if-lt a b x y h l = leZ-yes (implies-out (ltZ a b) (leZ x y) h (l .lt))
+-- where a fact holds, so does the other
+le-if : {A : Type 0} (fact : Tested A) (x y : ℤ) → T (implies (fact .test) (leZ x y)) → A → x ≤ℤ y
+le-if fact x y h a = leZ-yes (implies-out (fact .test) (leZ x y) h (fact .passes-if a))
 
 module _ (c : Card) (D W : Table) where
   abbrev late? : ℕ → Bool
@@ -161,19 +156,19 @@ module _ (c : Card) (D W : Table) where
   U1? s = every (c .points) (U2? s)
 
   abbrev L? : ℕ → ℕ → Bool
-  L? s q = implies (ltZ (D (finishOf c s) q) (pos 0)) (leZ (D (startOf c s) q) (pos (leastOf c s) +ℤ D (finishOf c s) q))
+  L? s q = implies (early (D (finishOf c s) q) .test) (leZ (D (startOf c s) q) (pos (leastOf c s) +ℤ D (finishOf c s) q))
 
   abbrev L1? : ℕ → Bool
   L1? s = every (c .points) (L? s)
 
   abbrev X? : ℕ → ℕ → Bool
-  X? k s = implies (not (eqb k s)) (implies (ltZ (W s (finishOf c k)) (pos 0)) (leZ (W s (startOf c k)) (pos (leastOf c k) +ℤ W s (finishOf c k))))
+  X? k s = implies (not (eqb k s)) (implies (early (W s (finishOf c k)) .test) (leZ (W s (startOf c k)) (pos (leastOf c k) +ℤ W s (finishOf c k))))
 
   abbrev X1? : ℕ → Bool
   X1? k = every (spanCount c) (X? k)
 
   abbrev R? : ℕ → ℕ → Bool
-  R? s p = implies (leZ (negℤ (pos (leastOf c s))) (W s p)) (leZ (D p (startOf c s)) (W s p))
+  R? s p = implies (released c s (W s p) .test) (leZ (D p (startOf c s)) (W s p))
 
   abbrev R1? : ℕ → Bool
   R1? s = every (c .points) (R? s)
@@ -185,7 +180,7 @@ module _ (c : Card) (D W : Table) where
   started? s = implies (eqb (startOf c s) 0) (leZ (pos 0) (W s 0))
 
   abbrev waiting? : ℕ → Bool
-  waiting? s = implies (not (eqb (startOf c s) 0)) (leZ (negℤ (pos (leastOf c s))) (W s 0))
+  waiting? s = implies (not (eqb (startOf c s) 0)) (released c s (W s 0) .test)
 
   abbrev table-tests : List Bool
   table-tests =
@@ -219,17 +214,17 @@ module _ (c : Card) (D W : Table) where
     tie = λ i lt. leZ-yes (at-each _ tie? (nth table-tests h 5) i lt);
     N = λ p q r lp lq lr. leZ-yes (at-each _ (N? p q) (at-each _ (N2? p) (at-each _ N1? (nth table-tests h 6) p lp) q lq) r lr);
     U = λ s p q ls lp lq. leZ-yes (at-each _ (U? s p) (at-each _ (U2? s) (at-each _ U1? (nth table-tests h 7) s ls) p lp) q lq);
-    L = λ s q ls lq. le-if-lt _ _ _ _ (at-each _ (L? s) (at-each _ L1? (nth table-tests h 8) s ls) q lq);
-    X = λ k s lk ls n. le-if-lt _ _ _ _ (implies-out (not (eqb k s)) _ (at-each _ (X? k) (at-each _ X1? (nth table-tests h 9) k lk) s ls) (apart n));
-    R = λ s p ls lp. le-if _ _ _ _ (at-each _ (R? s) (at-each _ R1? (nth table-tests h 10) s ls) p lp);
+    L = λ s q ls lq. le-if (early (D (finishOf c s) q)) _ _ (at-each _ (L? s) (at-each _ L1? (nth table-tests h 8) s ls) q lq);
+    X = λ k s lk ls n. le-if (early (W s (finishOf c k))) _ _ (implies-out (not (eqb k s)) _ (at-each _ (X? k) (at-each _ X1? (nth table-tests h 9) k lk) s ls) (apart n));
+    R = λ s p ls lp. le-if (released c s (W s p)) _ _ (at-each _ (R? s) (at-each _ R1? (nth table-tests h 10) s ls) p lp);
   }
 
   start-sound : T winning? → SoundAtStart c D W
   unfolding winning?
   start-sound h = record {
     ahead = λ p lt. leZ-yes (at-each _ ahead? (nth table-tests h 11) p lt);
-    started = λ s lt e. leZ-yes (implies-out (eqb (startOf c s) 0) _ (at-each _ started? (nth table-tests h 12) s lt) (same e));
-    waiting = λ s lt n. leZ-yes (implies-out (not (eqb (startOf c s) 0)) _ (at-each _ waiting? (nth table-tests h 13) s lt) (apart n));
+    started = λ s lt e. leZ-yes (implies-out (eqb (startOf c s) 0) _ (at-each _ started? (nth table-tests h 12) s lt) (eq-test e));
+    waiting = λ s lt n. released c s (W s 0) .passed (implies-out (not (eqb (startOf c s) 0)) _ (at-each _ waiting? (nth table-tests h 13) s lt) (apart n));
   }
 
   pub good-by : T (well-made? c) → T winning? → WellMade c × Good c

@@ -1,64 +1,23 @@
 -- Every derived edge holds in every plan.
-use Prim.Native.Nat.{ℕ, zero, suc, _+_, _≤_, _<_, min}
+use Prim.Native.Nat.{ℕ, _+_, _≤_, _<_}
 use mathlib.Core.Path.{_≡_, refl, sym, ap, subst, _∙_}
 use mathlib.Core.Logic.{_≢_}
 use Rattle.std.specs.declared.option.Option.{Option}
 use Rattle.std.specs.declared.option.Option.the-variants.{Some, None}
 use native.Mathlib.Omega.{arith}
-use native.Mathlib.Decide.{ℕ-discrete, decLe}
-use lib.IntN.{ℤ, pos, negℤ, _+ℤ_}
+use native.Mathlib.Decide.{ℕ-discrete}
+use lib.IntN.{ℤ, pos, _+ℤ_}
 use lib.Signed.{_≤ℤ_, _<ℤ_}
 use Rattle.std.proofs.shelf.Signed.{ints, by-ltZ}
-use Rattle.rules.specs.Card.{Card, WellMade, spanCount, tieCount, startOf, finishOf, leastOf, mostOf, fromOf, toOf, gapOf}
+use Rattle.rules.specs.Card.{Card, WellMade, spanCount, startOf, finishOf, leastOf, mostOf}
 use Rattle.rules.specs.declared.edges.Kind.{Kind}
 use Rattle.rules.specs.declared.edges.Kind.the-variants.{Plain, Lower, Wait, AllMost}
 use Rattle.rules.specs.declared.edges.Edge.{Edge}
-use Rattle.rules.specs.Edges.{edge, Given, given-late, given-early, given-most, given-least, given-lower, given-wait, given-tie, Rule, rule-N, rule-U, rule-L, rule-X, rule-R, rule-M, rule-Mw, rule-S, Derived, by-given, by-rule, Any}
+use Rattle.rules.specs.Edges.{edge, Early, Released, Given, given-late, given-early, given-most, given-least, given-lower, given-wait, given-tie, Rule, rule-N, rule-U, rule-L, rule-X, rule-R, rule-M, rule-Mw, rule-S, Derived, by-given, by-rule, Any}
 use Rattle.rules.specs.Game.{Position}
 use Rattle.rules.proofs.Basics.{clash}
-use Rattle.rules.proofs.Plan.{Plan, Lasts, Fine, Consistent, Cut}
-
--- ---- where the edges of each kind lie
-
-abbrev ShapeAt : Card → Kind → ℕ → ℕ → ℤ → Type 0
-ShapeAt card Plain p q w = (p < card .points) × (q < card .points)
-ShapeAt card (Lower s) p q w = (s < spanCount card) × (p ≡ startOf card s) × (q ≡ finishOf card s) × (w ≡ pos (leastOf card s))
-ShapeAt card (Wait s) p q w = (s < spanCount card) × (q ≡ startOf card s) × (p < card .points)
-ShapeAt card AllMost p q w = (p < card .points) × (q < card .points)
-
-abbrev pub Shape : Card → Edge → Type 0
-Shape card e = ShapeAt card (e .kind) (e .source) (e .target) (e .weight)
-
-module _ (card : Card) (made : WellMade card) where
-  pub start-below : {p s : ℕ} → s < spanCount card → p ≡ startOf card s → p < card .points
-  start-below {p} {s} h e = omega (arith, made .start-in s h)
-
-  given-shape : {e : Edge} → Given card e → Shape card e
-  given-shape (given-late p h k) = (made .some-point, k)
-  given-shape (given-early p h k) = (k, made .some-point)
-  given-shape (given-most s h) = (made .start-in s h, made .finish-in s h)
-  given-shape (given-least s h) = (made .finish-in s h, made .start-in s h)
-  given-shape (given-lower s h) = (h, refl, refl, refl)
-  given-shape (given-wait s h) = (h, refl, made .finish-in s h)
-  given-shape (given-tie i h) = (made .from-in i h, made .to-in i h)
-
-  rule-shape : {letter : ℕ} {e f g : Edge} → Rule card letter e f g → Shape card e → Shape card f → Shape card g
-  rule-shape (rule-N p q r u v) a b = (a .0, b .1)
-  rule-shape (rule-U s p q r u v) a b = (b .0, b .1, a .0)
-  rule-shape (rule-L s p q r u v h) a b = (start-below (a .0) (a .1), b .1)
-  rule-shape (rule-X k s p q r u v n h) a b = (b .0, b .1, start-below (a .0) (a .1))
-  rule-shape (rule-R s p q v h) a b = (a .2, start-below (a .0) (a .1))
-  rule-shape (rule-M p q v) a b = a
-  rule-shape (rule-Mw s p q v) a b = (a .2, start-below (a .0) (a .1))
-  rule-shape (rule-S p q r u v) a b = (a .0, b .1)
-
-  pub shape : {Within : Edge → Type 0} {e : Edge} → Derived card Within e → Shape card e
-  shape (by-given g w) = given-shape g
-  shape (by-rule r a b w) = rule-shape r (shape a) (shape b)
-
-  pub within : {Within : Edge → Type 0} {e : Edge} → Derived card Within e → Within e
-  within (by-given g w) = w
-  within (by-rule r a b w) = w
+use Rattle.rules.proofs.Derived.{Shape, start-below, shape}
+use Rattle.rules.proofs.Plan.{Plan, Lasts, Consistent, Cut}
 
 -- ---- durations with one of them changed
 
@@ -133,7 +92,7 @@ module _ (card : Card) (past : Position) (now first : ℕ) (plan : Plan card pas
 
 module _ (card : Card) (made : WellMade card) (Within : Edge → Type 0) (past : Position) (now first : ℕ) (plan : Plan card past now first) (fits : Cut card Within past now first) where
   -- L and X: what holds where span s lasts its least, and has q before its end, holds however long s lasts
-  shorten : (d : ℕ → ℕ) (v : Consistent card past first d) (s : ℕ) → s < spanCount card → (q : ℕ) → q < card .points → (z : ℤ) → z <ℤ pos 0
+  shorten : (d : ℕ → ℕ) (v : Consistent card past first d) (s : ℕ) → s < spanCount card → (q : ℕ) → q < card .points → (z : ℤ) → Early z
       → ((w : Consistent card past first (put d s (leastOf card s))) → Holds (plan .at (put d s (leastOf card s)) w) (finishOf card s) q z)
       → past (finishOf card s) ≡ None → ((a : ℕ) → past (startOf card s) ≡ Some a → first ≤ a + leastOf card s)
       → Holds (plan .at d v) (startOf card s) q (pos (leastOf card s) +ℤ z)
@@ -152,7 +111,7 @@ module _ (card : Card) (made : WellMade card) (Within : Edge → Type 0) (past :
       omega (arith, ints)
 
   -- the same, with what the past says
-  shortened : (d : ℕ → ℕ) (v : Consistent card past first d) (s : ℕ) → s < spanCount card → (q : ℕ) → q < card .points → (z : ℤ) → z <ℤ pos 0
+  shortened : (d : ℕ → ℕ) (v : Consistent card past first d) (s : ℕ) → s < spanCount card → (q : ℕ) → q < card .points → (z : ℤ) → Early z
       → Holds (plan .at d v) (finishOf card s) q z
       → ((w : Consistent card past first (put d s (leastOf card s))) → Holds (plan .at (put d s (leastOf card s)) w) (finishOf card s) q z)
       → ((a b : ℕ) → past (startOf card s) ≡ Some a → past q ≡ Some b → pos b ≤ℤ (pos a +ℤ (pos (leastOf card s) +ℤ z)))
@@ -171,7 +130,7 @@ module _ (card : Card) (made : WellMade card) (Within : Edge → Type 0) (past :
       go None x y e (Some c) g = clash (v .fine .over s c h g .1) x
 
   -- R: what holds where span s lasts its most, and is at least -least, holds however long s lasts
-  lengthen : (d : ℕ → ℕ) (v : Consistent card past first d) (s : ℕ) → s < spanCount card → (p : ℕ) → p < card .points → (z : ℤ) → negℤ (pos (leastOf card s)) ≤ℤ z
+  lengthen : (d : ℕ → ℕ) (v : Consistent card past first d) (s : ℕ) → s < spanCount card → (p : ℕ) → p < card .points → (z : ℤ) → Released card s z
       → ((w : Consistent card past first (put d s (mostOf card s))) → Holds (plan .at (put d s (mostOf card s)) w) p (startOf card s) z)
       → past (finishOf card s) ≡ None
       → Holds (plan .at d v) p (startOf card s) z
@@ -193,7 +152,7 @@ module _ (card : Card) (made : WellMade card) (Within : Edge → Type 0) (past :
       omega (arith, ints))
       (λ over. over)
 
-  lengthened : (d : ℕ → ℕ) (v : Consistent card past first d) (s : ℕ) → s < spanCount card → (p : ℕ) → p < card .points → (z : ℤ) → negℤ (pos (leastOf card s)) ≤ℤ z
+  lengthened : (d : ℕ → ℕ) (v : Consistent card past first d) (s : ℕ) → s < spanCount card → (p : ℕ) → p < card .points → (z : ℤ) → Released card s z
       → (past (finishOf card s) ≡ None → (w : Consistent card past first (put d s (mostOf card s))) → Holds (plan .at (put d s (mostOf card s)) w) p (startOf card s) z)
       → ((a b : ℕ) → past p ≡ Some a → past (startOf card s) ≡ Some b → pos b ≤ℤ (pos a +ℤ z))
       → Holds (plan .at d v) p (startOf card s) z

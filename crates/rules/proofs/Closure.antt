@@ -1,14 +1,14 @@
 -- What closed tables keep, rule by rule, and back.
 use Prim.Native.Nat.{ℕ, _<_}
-use mathlib.Core.Path.{_≡_, refl, sym, subst, ap}
-use mathlib.Core.Logic.{_≢_}
+use mathlib.Core.Path.{refl, subst, ap, _∙_}
+use mathlib.Core.Logic.{_≢_, _⊎_, inl, inr}
 use native.Mathlib.Omega.{arith}
 use lib.IntN.{ℤ, pos, negℤ, _+ℤ_}
-use lib.Signed.{_≤ℤ_, _<ℤ_}
-use Rattle.std.proofs.shelf.Signed.{ints}
+use lib.Signed.{_≤ℤ_}
+use Rattle.std.proofs.shelf.Signed.{ints, by-ltZ}
 use Rattle.rules.specs.Card.{Card, WellMade, spanCount, tieCount, startOf, finishOf, leastOf, mostOf, fromOf, toOf, gapOf}
 use Rattle.rules.specs.declared.edges.Edge.{Edge}
-use Rattle.rules.specs.Edges.{Given, given-late, given-early, given-most, given-least, given-lower, given-wait, given-tie, Rule, rule-N, rule-U, rule-L, rule-X, rule-R, rule-M, rule-Mw, rule-S}
+use Rattle.rules.specs.Edges.{Early, Released, Given, given-late, given-early, given-most, given-least, given-lower, given-wait, given-tie, Rule, rule-N, rule-U, rule-L, rule-X, rule-R, rule-M, rule-Mw, rule-S}
 use Rattle.rules.specs.Tables.{Table, Above, Entry, Closed}
 
 -- closed tables, rule by rule
@@ -21,9 +21,13 @@ pub record Rulewise (card : Card) (D W : Table) : Type 0 where
   pub tie : (i : ℕ) → i < tieCount card → D (fromOf card i) (toOf card i) ≤ℤ gapOf card i
   pub N : (p q r : ℕ) → p < card .points → q < card .points → r < card .points → D p r ≤ℤ (D p q +ℤ D q r)
   pub U : (s p q : ℕ) → s < spanCount card → p < card .points → q < card .points → W s p ≤ℤ (D p q +ℤ W s q)
-  pub L : (s q : ℕ) → s < spanCount card → q < card .points → D (finishOf card s) q <ℤ pos 0 → D (startOf card s) q ≤ℤ (pos (leastOf card s) +ℤ D (finishOf card s) q)
-  pub X : (k s : ℕ) → k < spanCount card → s < spanCount card → k ≢ s → W s (finishOf card k) <ℤ pos 0 → W s (startOf card k) ≤ℤ (pos (leastOf card k) +ℤ W s (finishOf card k))
-  pub R : (s p : ℕ) → s < spanCount card → p < card .points → negℤ (pos (leastOf card s)) ≤ℤ W s p → D p (startOf card s) ≤ℤ W s p
+  pub L : (s q : ℕ) → s < spanCount card → q < card .points → Early (D (finishOf card s) q) → D (startOf card s) q ≤ℤ (pos (leastOf card s) +ℤ D (finishOf card s) q)
+  pub X : (k s : ℕ) → k < spanCount card → s < spanCount card → k ≢ s → Early (W s (finishOf card k)) → W s (startOf card k) ≤ℤ (pos (leastOf card k) +ℤ W s (finishOf card k))
+  pub R : (s p : ℕ) → s < spanCount card → p < card .points → Released card s (W s p) → D p (startOf card s) ≤ℤ W s p
+
+-- L and X speak of a weight, or it is not negative
+pub early-or : (v : ℤ) → Early v ⊎ (pos 0 ≤ℤ v)
+early-or v = by-ltZ v (pos 0) (λ n. inl (omega (arith, ints, n))) (λ n. inr n)
 
 module _ (card : Card) (D W : Table) (made : WellMade card) where
   pub rulewise : Closed card D W → Rulewise card D W
@@ -54,10 +58,10 @@ module _ (card : Card) (D W : Table) (made : WellMade card) where
   made-above c (rule-N p q r u v) a b = omega (arith, ints, c .N p q r (a .0) (a .1) (b .1), a .2, b .2)
   made-above c (rule-U s p q r u v) a b = omega (arith, ints, c .U s p q (b .0) (a .0) (a .1), a .2, b .3)
   made-above c (rule-L s p q r u v neg) a b =
-      omega (arith, ints, c .L s r (a .0) (b .1) (omega (arith, ints, b .2, ap (λ y. D y r) (a .2))), ap (λ y. D y r) (a .1), ap (λ y. D y r) (a .2), a .3, b .2)
+      omega (arith, ints, c .L s r (a .0) (b .1) (subst Early (b .2 ∙ ap (λ y. D y r) (a .2)) neg), ap (λ y. D y r) (a .1), ap (λ y. D y r) (a .2), a .3, b .2)
   made-above c (rule-X k s p q r u v n neg) a b =
-      omega (arith, ints, c .X k s (a .0) (b .0) n (omega (arith, ints, b .3, ap (W s) (a .2))), ap (W s) (a .1), ap (W s) (a .2), a .3, b .3)
-  made-above c (rule-R s p q v low) a b = omega (arith, ints, c .R s p (a .0) (a .2) (omega (arith, ints, a .3)), ap (D p) (a .1), a .3)
+      omega (arith, ints, c .X k s (a .0) (b .0) n (subst Early (b .3 ∙ ap (W s) (a .2)) neg), ap (W s) (a .1), ap (W s) (a .2), a .3, b .3)
+  made-above c (rule-R s p q v low) a b = omega (arith, ints, c .R s p (a .0) (a .2) (subst (Released card s) (a .3) low), ap (D p) (a .1), a .3)
   made-above c (rule-M p q v) a b = tt
   made-above c (rule-Mw s p q v) a b = tt
   made-above c (rule-S p q r u v) a b = absurd a

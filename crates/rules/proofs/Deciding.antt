@@ -1,25 +1,25 @@
 -- Whether a step is lawful can be computed; so each list has an answer.
-use Prim.Native.Nat.{ℕ, zero, suc, _+_, _-_, _≤_, _<_}
-use mathlib.Core.Path.{_≡_, refl, sym, ap, subst, _∙_}
-use mathlib.Core.Logic.{_≢_, _⊎_, inl, inr, ⊎-elim, _↔_}
+use Prim.Native.Nat.{ℕ, zero, suc, _-_, _<_}
+use mathlib.Core.Path.{_≡_, refl, sym, ap, subst}
+use mathlib.Core.Logic.{_≢_, _⊎_, inl, inr, ⊎-elim}
 use mathlib.Core.Bool.{Bool, true, false, not, _&&_, _||_}
-use mathlib.Core.List.{List, []}
+use mathlib.Core.List.{List}
 use native.Mathlib.Omega.{arith}
 use native.Mathlib.Decide.{ℕ-discrete}
-use lib.Dec.{T, eqb, leb, ltb, eqb→eq, eqb-refl, ltb→lt, lt→ltb, T-not, not-T}
+use lib.Dec.{T, eqb, ltb, eqb→eq, eqb-refl, ltb→lt, lt→ltb, T-not, not-T}
 use lib.ListN.{length, getD}
-use lib.IntN.{ℤ, pos, negsuc, negℤ, _+ℤ_}
+use lib.IntN.{ℤ, pos, negsuc, _+ℤ_}
 use lib.Signed.{_≤ℤ_, _<ℤ_, leZ, ltZ, leZ-yes, ltZ-yes}
 use Rattle.std.proofs.shelf.Signed.{ints}
-use Rattle.rules.specs.Card.{Card, leastOf}
+use Rattle.rules.specs.Card.{Card}
 use Rattle.rules.specs.declared.edges.Kind.{Kind}
 use Rattle.rules.specs.declared.edges.Kind.the-variants.{Plain, Lower, Wait, AllMost}
 use Rattle.rules.specs.declared.edges.Edge.{Edge}
-use Rattle.rules.specs.Edges.{edge, Rule, rule-N, rule-U, rule-L, rule-X, rule-R, rule-M, rule-Mw, rule-S}
+use Rattle.rules.specs.Edges.{edge, Early, Released, Rule, rule-N, rule-U, rule-L, rule-X, rule-R, rule-M, rule-Mw, rule-S}
 use Rattle.rules.specs.declared.edges.Step.{Step}
-use Rattle.rules.specs.Steps.{stepAt, known, LawfulStep, LawfulAt, LawfulTo, Closing, Answer, passes, unlawful, no-loop, Reads}
+use Rattle.rules.specs.Steps.{stepAt, known, LawfulStep, LawfulAt, LawfulTo, Closing, passes, unlawful, no-loop}
 use Rattle.rules.specs.Theorems.{Some-answer}
-use Rattle.rules.proofs.Basics.{and-left, and-right, and-both, or-cases, or-left, or-right, decide}
+use Rattle.rules.proofs.Basics.{and-left, and-right, and-both, or-cases, or-left, or-right, eq-test, decide}
 
 -- ---- edges that are the same
 
@@ -99,6 +99,27 @@ is-edge e =
     (and-both (eqb (e .source) (e .source)) _ (eqb-refl (e .source))
     (and-both (eqb (e .target) (e .target)) _ (eqb-refl (e .target)) (is-weight (e .weight))))
 
+-- ---- thresholds
+
+-- a fact with a test for it
+pub record Tested (A : Type 0) : Type 0 where
+  pub test : Bool
+  pub passed : T test → A
+  pub passes-if : A → T test
+
+unfoldable pub less : (a b : ℤ) → Tested (a <ℤ b)
+less a b = record { test = ltZ a b; passed = ltZ-yes; passes-if = λ h. h .lt }
+
+unfoldable pub at-most : (a b : ℤ) → Tested (a ≤ℤ b)
+at-most a b = record { test = leZ a b; passed = leZ-yes; passes-if = λ h. h .le }
+
+-- wherever the thresholds lie
+unfoldable pub early : (v : ℤ) → Tested (Early v)
+early v = less v _
+
+unfoldable pub released : (card : Card) (s : ℕ) (v : ℤ) → Tested (Released card s v)
+released card s v = at-most _ v
+
 -- ---- rules
 
 -- are these the left, the right and the made edge of that instance of a rule, which is one if `side` holds?
@@ -134,14 +155,14 @@ module _ (card : Card) (e f g : Edge) where
   U? = instance true e f g (edge Plain (e .source) (e .target) (e .weight)) (edge (Wait (span-of (f .kind))) (e .target) (f .target) (f .weight)) (edge (Wait (span-of (f .kind))) (e .source) (f .target) (e .weight +ℤ f .weight))
 
   abbrev pub L? : Bool
-  L? = instance (ltZ (f .weight) (pos 0)) e f g (edge (Lower (span-of (e .kind))) (e .source) (e .target) (e .weight)) (edge Plain (e .target) (f .target) (f .weight)) (edge Plain (e .source) (f .target) (e .weight +ℤ f .weight))
+  L? = instance (early (f .weight) .test) e f g (edge (Lower (span-of (e .kind))) (e .source) (e .target) (e .weight)) (edge Plain (e .target) (f .target) (f .weight)) (edge Plain (e .source) (f .target) (e .weight +ℤ f .weight))
 
   abbrev pub X? : Bool
-  X? = instance (not (eqb (span-of (e .kind)) (span-of (f .kind))) && ltZ (f .weight) (pos 0)) e f g
+  X? = instance (not (eqb (span-of (e .kind)) (span-of (f .kind))) && early (f .weight) .test) e f g
       (edge (Lower (span-of (e .kind))) (e .source) (e .target) (e .weight)) (edge (Wait (span-of (f .kind))) (e .target) (f .target) (f .weight)) (edge (Wait (span-of (f .kind))) (e .source) (f .target) (e .weight +ℤ f .weight))
 
   abbrev pub R? : Bool
-  R? = instance (leZ (negℤ (pos (leastOf card (span-of (e .kind))))) (e .weight)) e f g
+  R? = instance (released card (span-of (e .kind)) (e .weight) .test) e f g
       (edge (Wait (span-of (e .kind))) (e .source) (e .target) (e .weight)) (edge (Wait (span-of (e .kind))) (e .source) (e .target) (e .weight)) (edge Plain (e .source) (e .target) (e .weight))
 
   abbrev pub M? : Bool
@@ -165,26 +186,26 @@ module _ (card : Card) (e f g : Edge) where
   rule-is c h0 =
       ⊎-elim (λ h. by-letter c 78 N? h (instance-is card 78 true e f g _ _ _ (λ x. rule-N _ _ _ _ _))) (λ h1.
       ⊎-elim (λ h. by-letter c 85 U? h (instance-is card 85 true e f g _ _ _ (λ x. rule-U _ _ _ _ _ _))) (λ h2.
-      ⊎-elim (λ h. by-letter c 76 L? h (instance-is card 76 (ltZ (f .weight) (pos 0)) e f g _ _ _ (λ x. rule-L _ _ _ _ _ _ (ltZ-yes x)))) (λ h3.
-      ⊎-elim (λ h. by-letter c 88 X? h (instance-is card 88 (not (eqb (span-of (e .kind)) (span-of (f .kind))) && ltZ (f .weight) (pos 0)) e f g _ _ _
-      (λ x. rule-X _ _ _ _ _ _ _ (apart (and-left (not (eqb (span-of (e .kind)) (span-of (f .kind)))) _ x)) (ltZ-yes (and-right (not (eqb (span-of (e .kind)) (span-of (f .kind)))) _ x))))) (λ h4.
-      ⊎-elim (λ h. by-letter c 82 R? h (instance-is card 82 (leZ (negℤ (pos (leastOf card (span-of (e .kind))))) (e .weight)) e f g _ _ _ (λ x. rule-R _ _ _ _ (leZ-yes x)))) (λ h5.
+      ⊎-elim (λ h. by-letter c 76 L? h (instance-is card 76 (early (f .weight) .test) e f g _ _ _ (λ x. rule-L _ _ _ _ _ _ (early (f .weight) .passed x)))) (λ h3.
+      ⊎-elim (λ h. by-letter c 88 X? h (instance-is card 88 (not (eqb (span-of (e .kind)) (span-of (f .kind))) && early (f .weight) .test) e f g _ _ _
+      (λ x. rule-X _ _ _ _ _ _ _ (apart (and-left (not (eqb (span-of (e .kind)) (span-of (f .kind)))) _ x)) (early (f .weight) .passed (and-right (not (eqb (span-of (e .kind)) (span-of (f .kind)))) _ x))))) (λ h4.
+      ⊎-elim (λ h. by-letter c 82 R? h (instance-is card 82 (released card (span-of (e .kind)) (e .weight) .test) e f g _ _ _ (λ x. rule-R _ _ _ _ (released card (span-of (e .kind)) (e .weight) .passed x)))) (λ h5.
       ⊎-elim (λ h. by-letter c 77 M? h (instance-is card 77 true e f g _ _ _ (λ x. rule-M _ _ _))) (λ h6.
       ⊎-elim (λ h. by-letter c 77 Mw? h (instance-is card 77 true e f g _ _ _ (λ x. rule-Mw _ _ _ _)))
       (λ h. by-letter c 83 S? h (instance-is card 83 true e f g _ _ _ (λ x. rule-S _ _ _ _ _)))
       (or-cases (eqb c 77 && Mw?) _ h6)) (or-cases (eqb c 77 && M?) _ h5)) (or-cases (eqb c 82 && R?) _ h4)) (or-cases (eqb c 88 && X?) _ h3)) (or-cases (eqb c 76 && L?) _ h2)) (or-cases (eqb c 85 && U?) _ h1)) (or-cases (eqb c 78 && N?) _ h0)
     where
       apart : {a b : ℕ} → T (not (eqb a b)) → a ≢ b
-      apart {a} {b} h e = T-not (eqb a b) h (subst (λ x. T (eqb a x)) e (eqb-refl a))
+      apart {a} {b} h e = T-not (eqb a b) h (eq-test e)
 
 pub is-rule : (card : Card) {c : ℕ} {e f g : Edge} → Rule card c e f g → T (rule? card e f g c)
 unfolding rule? span-of
 is-rule card (rule-N p q r u v) = or-left _ _ (is-instance true _ _ _ tt)
 is-rule card (rule-U s p q r u v) = or-left _ _ (is-instance true _ _ _ tt)
-is-rule card (rule-L s p q r u v neg) = or-left _ _ (is-instance (ltZ v (pos 0)) _ _ _ (neg .lt))
+is-rule card (rule-L s p q r u v neg) = or-left _ _ (is-instance (early v .test) _ _ _ (early v .passes-if neg))
 is-rule card (rule-X k s p q r u v n neg) =
-    or-left _ _ (is-instance (not (eqb k s) && ltZ v (pos 0)) _ _ _ (and-both (not (eqb k s)) _ (not-T (eqb k s) (λ h. n (eqb→eq k s h))) (neg .lt)))
-is-rule card (rule-R s p q v low) = or-left _ _ (is-instance (leZ (negℤ (pos (leastOf card s))) v) _ _ _ (low .le))
+    or-left _ _ (is-instance (not (eqb k s) && early v .test) _ _ _ (and-both (not (eqb k s)) _ (not-T (eqb k s) (λ h. n (eqb→eq k s h))) (early v .passes-if neg)))
+is-rule card (rule-R s p q v low) = or-left _ _ (is-instance (released card s v .test) _ _ _ (released card s v .passes-if low))
 is-rule card (rule-M p q v) = or-left _ _ (is-instance true _ _ _ tt)
 is-rule card (rule-Mw s p q v) =
     let e : Edge = edge (Wait s) p q v in
@@ -231,10 +252,10 @@ module _ (card : Card) (es : List Edge) (step : Step) where
   lawful? = left-known? && (right-known? && (by-rule? && (repeats? 82 && (repeats? 77 && (low? && high?)))))
 
   repeats-is : (c : ℕ) → T (repeats? c) → step .letter ≡ c → step .right ≡ step .left
-  repeats-is c h e = eqb→eq (step .right) (step .left) (implies-out (eqb (step .letter) c) _ h (subst (λ x. T (eqb (step .letter) x)) e (eqb-refl (step .letter))))
+  repeats-is c h e = eqb→eq (step .right) (step .left) (implies-out (eqb (step .letter) c) _ h (eq-test e))
 
   is-repeats : (c : ℕ) → (step .letter ≡ c → step .right ≡ step .left) → T (repeats? c)
-  is-repeats c f = implies-in (eqb (step .letter) c) _ (λ h. subst (λ x. T (eqb x (step .left))) (sym (f (eqb→eq (step .letter) c h))) (eqb-refl (step .left)))
+  is-repeats c f = implies-in (eqb (step .letter) c) _ (λ h. eq-test (f (eqb→eq (step .letter) c h)))
 
   pub lawful-is : T lawful? → LawfulStep card es step
   unfolding lawful?
@@ -287,7 +308,7 @@ closing? steps =
       negative = ltZ-yes (and-right itself _ (and-right some _ h));
     }))
     (λ h. inr (λ c. h (and-both some _ (lt→ltb 0 (length steps) (c .some-step))
-    (and-both itself _ (subst (λ x. T (eqb (last .source) x)) (c .itself) (eqb-refl (last .source))) (c .negative .lt)))))
+    (and-both itself _ (eq-test (c .itself)) (c .negative .lt)))))
     (decide (some && (itself && ltZ (last .weight) (pos 0))))
   where
     last : Edge

@@ -1,130 +1,29 @@
--- Step lists: the numbered edges are the given ones, and lawful steps make only derived edges.
-use Prim.Native.Nat.{ℕ, zero, suc, _+_, _-_, _≤_, _<_}
+-- Step lists: what lawful steps make is derived, and what is derived in range some lawful steps make.
+use Prim.Native.Nat.{ℕ, zero, suc, _-_, _≤_, _<_}
 use mathlib.Core.Path.{_≡_, refl, sym, ap, ap₂, subst, _∙_}
-use mathlib.Core.Logic.{_⊎_, inl, inr, ⊎-elim}
-use mathlib.Core.List.{List, [], _∷_, _++_}
+use mathlib.Core.Logic.{⊎-elim}
+use mathlib.Core.List.{List, [], _∷_, _++_, append-assoc, append-nil}
 use native.Mathlib.Omega.{arith}
 use native.Mathlib.Decide.{ℕ-discrete}
 use lib.ListN.{length, getD, length-append, List·getD-append}
-use lib.IntN.{ℤ, pos, negℤ}
+use lib.IntN.{pos}
 use lib.Signed.{_<ℤ_}
-use Rattle.std.specs.shelf.Lists.{All}
-use Rattle.std.proofs.shelf.Elements.{all-append, all-push, all-getD}
+use Rattle.std.specs.shelf.Lists.{All, Has}
+use Rattle.std.proofs.shelf.Elements.{all-push, all-getD, has-append-left, has-push}
+use Rattle.std.proofs.shelf.Signed.{ints}
 use Rattle.std.proofs.shelf.Tests.{cases-order}
-use Rattle.rules.specs.Card.{Card, WellMade, spanCount, tieCount, startOf, finishOf, leastOf, mostOf, fromOf, toOf, gapOf}
-use Rattle.rules.specs.declared.edges.Kind.{Kind}
-use Rattle.rules.specs.declared.edges.Kind.the-variants.{Plain, Lower, Wait}
+use Rattle.rules.specs.Card.{Card, WellMade}
 use Rattle.rules.specs.declared.edges.Edge.{Edge}
-use Rattle.rules.specs.Edges.{edge, Given, given-late, given-early, given-most, given-least, given-lower, given-wait, given-tie, Derived, by-given, by-rule, Any}
-use Rattle.rules.specs.Game.{Good}
 use Rattle.rules.specs.declared.edges.Step.{Step}
-use Rattle.rules.specs.Steps.{point-edges, span-edges, tie-edges, given, stepAt, known, LawfulStep, LawfulAt, LawfulTo, Closing, Answer, passes, unlawful, no-loop, Reads}
-use Rattle.rules.specs.Theorems.{Loops-lose, Lists-tell, Given-numbered, One-answer}
-use Rattle.rules.proofs.Claims.{no-plan}
-use Rattle.rules.proofs.Play.{plan-at-start}
+use Rattle.rules.specs.Edges.{edge, Given, given-late, given-early, given-most, given-least, given-lower, given-wait, given-tie, Rule, rule-N, rule-U, rule-L, rule-X, rule-R, rule-M, rule-Mw, rule-S, Derived, by-given, by-rule, Any, InRange}
+use Rattle.rules.specs.Steps.{given, stepAt, known, all-known, LawfulStep, LawfulAt, LawfulTo, AllLawful, Closing, passes, unlawful, no-loop, Reads}
+use Rattle.rules.specs.Theorems.{Lists-tell, Edges-listed, Loops-listed, One-answer}
+use Rattle.rules.proofs.Marks.{loops-lose}
+use Rattle.rules.proofs.Numbered.{all-given, numbered}
 
-pub loops-lose : Loops-lose
-loops-lose card made kind p w loop neg good = no-plan card made (plan-at-start card made good) kind p w loop neg
-
--- ---- the numbered edges are given
-
--- e stands in the list
-abbrev In : Edge → List Edge → Type 0
-In e es = (i : ℕ) × (i < length es) × (getD es i e ≡ e)
-
-in-left : (e : Edge) (xs ys : List Edge) → In e xs → In e (xs ++ ys)
-in-left e xs ys (i, lt, is) = (i, omega (arith, length-append xs ys), List·getD-append xs ys e i lt ∙ is)
-
-in-right : (e : Edge) (xs ys : List Edge) → In e ys → In e (xs ++ ys)
-in-right e [] ys h = h
-in-right e (x ∷ xs) ys h = let r = in-right e xs ys h in (suc (r .0), omega (arith, r .1), r .2)
+-- ---- lawful steps make derived edges
 
 module _ (card : Card) where
-  points-given : (n : ℕ) → n < card .points → All (Given card) (point-edges card n)
-  unfolding point-edges
-  points-given zero h = tt
-  points-given (suc n) h = all-append (Given card) (point-edges card n) _ (points-given n (omega arith)) (given-late (suc n) (omega arith) h, (given-early (suc n) (omega arith) h, tt))
-
-  spans-given : (n : ℕ) → n ≤ spanCount card → All (Given card) (span-edges card n)
-  unfolding span-edges
-  spans-given zero h = tt
-  spans-given (suc s) h = all-append (Given card) (span-edges card s) _ (spans-given s (omega arith)) (given-most s h, (given-least s h, (given-lower s h, (given-wait s h, tt))))
-
-  ties-given : (n : ℕ) → n ≤ tieCount card → All (Given card) (tie-edges card n)
-  unfolding tie-edges
-  ties-given zero h = tt
-  ties-given (suc i) h = all-append (Given card) (tie-edges card i) _ (ties-given i (omega arith)) (given-tie i h, tt)
-
-  pub all-given : WellMade card → All (Given card) (given card)
-  unfolding given
-  all-given made =
-      all-append (Given card) (point-edges card (card .points - 1)) _ (points-given (card .points - 1) (omega (arith, made .some-point)))
-      (all-append (Given card) (span-edges card (spanCount card)) _ (spans-given (spanCount card) (omega arith)) (ties-given (tieCount card) (omega arith)))
-
-  point-in : (n p : ℕ) → 0 < p → p ≤ n → In (edge Plain 0 p (pos (card .horizon))) (point-edges card n) × In (edge Plain p 0 (pos 0)) (point-edges card n)
-  unfolding point-edges
-  point-in zero p h k = absurd (omega arith)
-  point-in (suc n) p h k =
-      elim (ℕ-discrete p (suc n)) [
-        | yes e ↦ rw e (in-right _ (point-edges card n) _ (0, omega arith, refl), in-right _ (point-edges card n) _ (1, omega arith, refl))
-        | no d ↦ let r = point-in n p h (omega arith) in (in-left _ (point-edges card n) _ (r .0), in-left _ (point-edges card n) _ (r .1))
-      ]
-
-  -- the k-th of the four edges of span s
-  abbrev of-span : ℕ → ℕ → Edge
-  of-span s zero = edge Plain (startOf card s) (finishOf card s) (pos (mostOf card s))
-  of-span s (suc zero) = edge Plain (finishOf card s) (startOf card s) (negℤ (pos (leastOf card s)))
-  of-span s (suc (suc zero)) = edge (Lower s) (startOf card s) (finishOf card s) (pos (leastOf card s))
-  of-span s (suc (suc (suc k))) = edge (Wait s) (finishOf card s) (startOf card s) (negℤ (pos (mostOf card s)))
-
-  span-in : (k : ℕ) → k < 4 → (n s : ℕ) → s < n → In (of-span s k) (span-edges card n)
-  unfolding span-edges
-  span-in k l zero s h = absurd (omega arith)
-  span-in k l (suc n) s h =
-      elim (ℕ-discrete s n) [
-        | yes e ↦ rw e (in-right _ (span-edges card n) _ (here k l))
-        | no d ↦ in-left _ (span-edges card n) _ (span-in k l n s (omega arith))
-      ]
-    where
-      here : (k : ℕ) → k < 4 → In (of-span n k) (of-span n 0 ∷ of-span n 1 ∷ of-span n 2 ∷ of-span n 3 ∷ [])
-      here zero l = (0, omega arith, refl)
-      here (suc zero) l = (1, omega arith, refl)
-      here (suc (suc zero)) l = (2, omega arith, refl)
-      here (suc (suc (suc zero))) l = (3, omega arith, refl)
-      here (suc (suc (suc (suc k)))) l = absurd (omega arith)
-
-  tie-in : (n i : ℕ) → i < n → In (edge Plain (fromOf card i) (toOf card i) (gapOf card i)) (tie-edges card n)
-  unfolding tie-edges
-  tie-in zero i h = absurd (omega arith)
-  tie-in (suc n) i h =
-      elim (ℕ-discrete i n) [
-        | yes e ↦ rw e (in-right _ (tie-edges card n) _ (0, omega arith, refl))
-        | no d ↦ in-left _ (tie-edges card n) _ (tie-in n i (omega arith))
-      ]
-
-  among-points : (e : Edge) → In e (point-edges card (card .points - 1)) → In e (given card)
-  unfolding given
-  among-points e h = in-left e (point-edges card (card .points - 1)) _ h
-
-  among-spans : (e : Edge) → In e (span-edges card (spanCount card)) → In e (given card)
-  unfolding given
-  among-spans e h = in-right e (point-edges card (card .points - 1)) _ (in-left e (span-edges card (spanCount card)) _ h)
-
-  among-ties : (e : Edge) → In e (tie-edges card (tieCount card)) → In e (given card)
-  unfolding given
-  among-ties e h = in-right e (point-edges card (card .points - 1)) _ (in-right e (span-edges card (spanCount card)) _ h)
-
-  numbered : {e : Edge} → Given card e → In e (given card)
-  numbered (given-late p h k) = among-points _ (point-in (card .points - 1) p h (omega arith) .0)
-  numbered (given-early p h k) = among-points _ (point-in (card .points - 1) p h (omega arith) .1)
-  numbered (given-most s h) = among-spans _ (span-in 0 (omega arith) (spanCount card) s h)
-  numbered (given-least s h) = among-spans _ (span-in 1 (omega arith) (spanCount card) s h)
-  numbered (given-lower s h) = among-spans _ (span-in 2 (omega arith) (spanCount card) s h)
-  numbered (given-wait s h) = among-spans _ (span-in 3 (omega arith) (spanCount card) s h)
-  numbered (given-tie i h) = among-ties _ (tie-in (tieCount card) i h)
-
-  -- ---- lawful steps make derived edges
-
   abbrev Made : Edge → Type 0
   Made e = Derived card Any e
 
@@ -138,13 +37,10 @@ module _ (card : Card) where
 
   known-made : WellMade card → (steps : List Step) (n : ℕ) → LawfulTo card steps n → All Made (known card steps n)
   unfolding known
-  known-made made steps zero law = all-made (given card) (all-given made)
+  known-made made steps zero law = all-made (given card) (all-given card made)
   known-made made steps (suc n) law =
       let before = known-made made steps n (λ i h. law i (omega arith)) in
       all-push Made (known card steps n) (stepAt steps n .makes) before (step-made (known card steps n) (stepAt steps n) before (law n (omega arith)))
-
-pub given-numbered : Given-numbered
-given-numbered card made e = (numbered card, λ x. subst (Given card) (x .2) (all-getD (Given card) (given card) (x .0) e (x .1) (all-given card made)))
 
 pub lists-tell : Lists-tell
 lists-tell card made steps (law, closing) good =
@@ -153,6 +49,173 @@ lists-tell card made steps (law, closing) good =
     let lt : n < length steps = omega (arith, closing .some-step) in
     let loop : Derived card Any m = step-made card (known card steps n) (stepAt steps n) (known-made card made steps n (λ i h. law i (omega arith))) (law n lt) in
     loops-lose card made (m .kind) (m .source) (m .weight) (subst (λ q. Derived card Any (edge (m .kind) (m .source) q (m .weight))) (sym (closing .itself)) loop) (closing .negative) good
+
+-- ---- a list grows by a lawful step
+
+module _ (card : Card) (steps more : List Step) where
+  at-same : (i : ℕ) → i < length steps → stepAt (steps ++ more) i ≡ stepAt steps i
+  unfolding stepAt
+  at-same i h = List·getD-append steps more _ i h
+
+  known-same : (n : ℕ) → n ≤ length steps → known card (steps ++ more) n ≡ known card steps n
+  unfolding known
+  known-same zero h = refl
+  known-same (suc n) h = ap₂ (λ es x. es ++ (x .makes ∷ [])) (known-same n (omega arith)) (at-same n h)
+
+module _ (card : Card) (steps : List Step) (s : Step) where
+  abbrev longer : List Step
+  longer = steps ++ (s ∷ [])
+
+  longer-by-one : length longer ≡ suc (length steps)
+  longer-by-one = omega (arith, length-append steps (s ∷ []))
+
+  at-end : stepAt longer (length steps) ≡ s
+  unfolding stepAt
+  at-end = go steps
+    where
+      go : (xs : List Step) → stepAt (xs ++ (s ∷ [])) (length xs) ≡ s
+      go [] = refl
+      go (x ∷ xs) = go xs
+
+  -- the list with one lawful step more is lawful
+  pub lawful-more : LawfulTo card steps (length steps) → LawfulStep card (known card steps (length steps)) s → LawfulTo card longer (length longer)
+  lawful-more law more i h =
+      elim (ℕ-discrete i (length steps)) [
+        | yes e ↦ subst (LawfulAt card longer) (sym e)
+            (subst (λ es. LawfulStep card es (stepAt longer (length steps))) (sym (known-same card steps (s ∷ []) (length steps) (omega arith)))
+            (subst (LawfulStep card (known card steps (length steps))) (sym at-end) more))
+        | no n ↦ let lt : i < length steps = omega (arith, longer-by-one) in
+            subst (λ es. LawfulStep card es (stepAt longer i)) (sym (known-same card steps (s ∷ []) i (omega arith)))
+            (subst (LawfulStep card (known card steps i)) (sym (at-same card steps (s ∷ []) i lt)) (law i lt))
+      ]
+
+  -- and its edge is known then, the last
+  pub known-more : known card longer (length longer) ≡ known card steps (length steps) ++ (s .makes ∷ [])
+  unfolding known
+  known-more =
+      ap (known card longer) longer-by-one
+      ∙ ap₂ (λ es x. es ++ (x .makes ∷ [])) (known-same card steps (s ∷ []) (length steps) (omega arith)) at-end
+
+-- ---- derived edges in range are made by lawful steps
+
+module _ (card : Card) (es : List Edge) where
+  -- the step that makes g of the edges with these numbers
+  step-at : {letter : ℕ} {e f g : Edge} → Rule card letter e f g → (x : Has es e) (y : Has es f) → InRange g
+      → (letter ≡ 82 → y .0 ≡ x .0) → (letter ≡ 77 → y .0 ≡ x .0) → LawfulStep card es (record { letter = letter; left = x .0; right = y .0; makes = g })
+  step-at {letter} {e} {f} {g} r x y range if-R if-M = record {
+    left-known = x .1;
+    right-known = y .1;
+    by-rule = subst (λ l. Rule card letter l (getD es (y .0) g) g) (sym (x .2 g)) (subst (λ m. Rule card letter e m g) (sym (y .2 g)) r);
+    repeats-R = if-R;
+    repeats-M = if-M;
+    in-range = range;
+  }
+
+  -- R and M take the left number twice
+  step-by : {letter : ℕ} {e f g : Edge} → Rule card letter e f g → Has es e → Has es f → InRange g → (s : Step) × LawfulStep card es s × (s .makes ≡ g)
+  step-by (rule-N p q r u v) x y range = (_, step-at (rule-N p q r u v) x y range (λ c. absurd (omega arith)) (λ c. absurd (omega arith)), refl)
+  step-by (rule-U s p q r u v) x y range = (_, step-at (rule-U s p q r u v) x y range (λ c. absurd (omega arith)) (λ c. absurd (omega arith)), refl)
+  step-by (rule-L s p q r u v h) x y range = (_, step-at (rule-L s p q r u v h) x y range (λ c. absurd (omega arith)) (λ c. absurd (omega arith)), refl)
+  step-by (rule-X k s p q r u v n h) x y range = (_, step-at (rule-X k s p q r u v n h) x y range (λ c. absurd (omega arith)) (λ c. absurd (omega arith)), refl)
+  step-by (rule-R s p q v h) x y range = (_, step-at (rule-R s p q v h) x x range (λ c. refl) (λ c. refl), refl)
+  step-by (rule-M p q v) x y range = (_, step-at (rule-M p q v) x x range (λ c. refl) (λ c. refl), refl)
+  step-by (rule-Mw s p q v) x y range = (_, step-at (rule-Mw s p q v) x x range (λ c. refl) (λ c. refl), refl)
+  step-by (rule-S p q r u v) x y range = (_, step-at (rule-S p q r u v) x y range (λ c. absurd (omega arith)) (λ c. absurd (omega arith)), refl)
+
+module _ (card : Card) where
+  -- what is known stays known
+  known-up : (steps : List Step) (n m : ℕ) (e : Edge) → n ≤ m → Has (known card steps n) e → Has (known card steps m) e
+  unfolding known
+  known-up steps n zero e le h = let none : n ≡ 0 = omega arith in subst (λ k. Has (known card steps k) e) none h
+  known-up steps n (suc m) e le h =
+      elim (ℕ-discrete n (suc m)) [
+        | yes q ↦ subst (λ k. Has (known card steps k) e) q h
+        | no q ↦ has-append-left (known card steps m) _ e (known-up steps n m e (omega arith) h)
+      ]
+
+  stays : (steps more : List Step) (e : Edge) → Has (all-known card steps) e → Has (all-known card (steps ++ more)) e
+  stays steps more e h =
+      known-up (steps ++ more) (length steps) (length (steps ++ more)) e (omega (arith, length-append steps more))
+      (subst (λ es. Has es e) (sym (known-same card steps more (length steps) (omega arith))) h)
+
+  -- every list of lawful steps can be continued until it knows e
+  abbrev Reach : Edge → Type 0
+  Reach e = (steps : List Step) → AllLawful card steps → (more : List Step) × AllLawful card (steps ++ more) × Has (all-known card (steps ++ more)) e
+
+  -- until it knows e and f
+  both : {e f : Edge} → Reach e → Reach f → (steps : List Step) → AllLawful card steps
+      → (more : List Step) × AllLawful card (steps ++ more) × Has (all-known card (steps ++ more)) e × Has (all-known card (steps ++ more)) f
+  both {e} {f} a b steps law =
+      let x = a steps law in
+      let y = b (steps ++ x .0) (x .1) in
+      let same : (steps ++ x .0) ++ y .0 ≡ steps ++ (x .0 ++ y .0) = append-assoc steps (x .0) (y .0) in (
+        x .0 ++ y .0,
+        subst (AllLawful card) same (y .1),
+        subst (λ l. Has (all-known card l) e) same (stays (steps ++ x .0) (y .0) e (x .2)),
+        subst (λ l. Has (all-known card l) f) same (y .2),
+      )
+
+  reach-given : {e : Edge} → Given card e → Reach e
+  unfolding known
+  reach-given {e} g steps law = (
+    [],
+    subst (AllLawful card) (sym (append-nil steps)) law,
+    subst (λ l. Has (all-known card l) e) (sym (append-nil steps)) (known-up steps 0 (length steps) e (omega arith) (numbered card g)),
+  )
+
+  reach-made : {letter : ℕ} {e f g : Edge} → Rule card letter e f g → InRange g → Reach e → Reach f → Reach g
+  reach-made {g = g} r range a b steps law =
+      let x = both a b steps law in
+      let l = steps ++ x .0 in
+      let s = step-by card (all-known card l) r (x .2) (x .3) range in
+      let one = s .0 ∷ [] in
+      let same : l ++ one ≡ steps ++ (x .0 ++ one) = append-assoc steps (x .0) one in (
+        x .0 ++ one,
+        subst (AllLawful card) same (lawful-more card l (s .0) (x .1) (s .1)),
+        subst (λ m. Has (all-known card m) g) same
+            (subst (λ es. Has es g) (sym (known-more card l (s .0))) (subst (Has (all-known card l ++ (s .0 .makes ∷ []))) (s .2) (has-push (all-known card l) (s .0 .makes)))),
+      )
+
+  reach : {e : Edge} → Derived card InRange e → Reach e
+  reach (by-given g range) = reach-given g
+  reach (by-rule r a b range) = reach-made r range (reach a) (reach b)
+
+  -- a negative loop made last
+  passes-made : {letter : ℕ} {e f g : Edge} → Rule card letter e f g → InRange g → Reach e → Reach f → g .source ≡ g .target → g .weight <ℤ pos 0
+      → (steps : List Step) × Reads card steps passes
+  passes-made {g = g} r range a b itself negative =
+      let x = both a b [] (λ i h. absurd (omega arith)) in
+      let l = x .0 in
+      let s = step-by card (all-known card l) r (x .2) (x .3) range in
+      let steps = l ++ (s .0 ∷ []) in
+      let n : length steps - 1 ≡ length l = omega (arith, length-append l (s .0 ∷ [])) in
+      let last : g ≡ stepAt steps (length steps - 1) .makes = sym (ap (λ k. stepAt steps k .makes) n ∙ ap (λ y. y .makes) (at-end card l (s .0)) ∙ s .2) in
+      let closing : Closing steps = record {
+        some-step = omega (arith, length-append l (s .0 ∷ []));
+        itself = subst (λ e. e .source ≡ e .target) last itself;
+        negative = subst (λ e. e .weight <ℤ pos 0) last negative;
+      } in
+      (steps, (lawful-more card l (s .0) (x .1) (s .1), closing))
+
+  -- a given loop is made again, by M
+  passes-given : {e : Edge} → Given card e → InRange e → e .source ≡ e .target → e .weight <ℤ pos 0 → (steps : List Step) × Reads card steps passes
+  passes-given (given-late p h k) range = let g = reach-given (given-late p h k) in passes-made (rule-M _ _ _) range g g
+  passes-given (given-early p h k) range = let g = reach-given (given-early p h k) in passes-made (rule-M _ _ _) range g g
+  passes-given (given-most s h) range = let g = reach-given (given-most s h) in passes-made (rule-M _ _ _) range g g
+  passes-given (given-least s h) range = let g = reach-given (given-least s h) in passes-made (rule-M _ _ _) range g g
+  passes-given (given-lower s h) range = λ itself negative. absurd (omega (arith, ints, negative))
+  passes-given (given-wait s h) range = let g = reach-given (given-wait s h) in passes-made (rule-Mw _ _ _ _) range g g
+  passes-given (given-tie i h) range = let g = reach-given (given-tie i h) in passes-made (rule-M _ _ _) range g g
+
+  passes-for : {e : Edge} → Derived card InRange e → e .source ≡ e .target → e .weight <ℤ pos 0 → (steps : List Step) × Reads card steps passes
+  passes-for (by-given g range) = passes-given g range
+  passes-for (by-rule r a b range) = passes-made r range (reach a) (reach b)
+
+pub edges-listed : Edges-listed
+edges-listed card e d = reach card d
+
+pub loops-listed : Loops-listed
+loops-listed card kind p w d negative = passes-for card d refl negative
 
 -- ---- one answer
 
@@ -167,31 +230,3 @@ one-answer card steps (unlawful i) no-loop x y = absurd (x .2 (y .0 i (x .0)))
 one-answer card steps no-loop passes x y = absurd (x .1 (y .1))
 one-answer card steps no-loop (unlawful j) x y = absurd (y .2 (x .0 j (y .0)))
 one-answer card steps no-loop no-loop x y = refl
-
--- ---- a list grows by a lawful step
-
-module _ (card : Card) (steps : List Step) (s : Step) where
-  at-same : (i : ℕ) → i < length steps → stepAt (steps ++ (s ∷ [])) i ≡ stepAt steps i
-  unfolding stepAt
-  at-same i h = List·getD-append steps (s ∷ []) _ i h
-
-  at-end : stepAt (steps ++ (s ∷ [])) (length steps) ≡ s
-  unfolding stepAt
-  at-end = go steps
-    where
-      go : (xs : List Step) → stepAt (xs ++ (s ∷ [])) (length xs) ≡ s
-      go [] = refl
-      go (x ∷ xs) = go xs
-
-  known-same : (n : ℕ) → n ≤ length steps → known card (steps ++ (s ∷ [])) n ≡ known card steps n
-  unfolding known
-  known-same zero h = refl
-  known-same (suc n) h = ap₂ (λ es x. es ++ (x .makes ∷ [])) (known-same n (omega arith)) (at-same n h)
-
-  -- the list with one lawful step more is lawful
-  pub lawful-more : LawfulTo card steps (length steps) → LawfulStep card (known card steps (length steps)) s → LawfulTo card (steps ++ (s ∷ [])) (suc (length steps))
-  lawful-more law more i h =
-      elim (ℕ-discrete i (length steps)) [
-        | yes e ↦ subst (LawfulAt card (steps ++ (s ∷ []))) (sym e) (subst (λ es. LawfulStep card es (stepAt (steps ++ (s ∷ [])) (length steps))) (sym (known-same (length steps) (omega arith))) (subst (LawfulStep card (known card steps (length steps))) (sym at-end) more))
-        | no n ↦ let lt : i < length steps = omega arith in subst (λ es. LawfulStep card es (stepAt (steps ++ (s ∷ [])) i)) (sym (known-same i (omega arith))) (subst (LawfulStep card (known card steps i)) (sym (at-same i lt)) (law i lt))
-      ]

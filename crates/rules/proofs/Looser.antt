@@ -1,17 +1,16 @@
 -- A looser card than a good one is good.
-use Prim.Native.Nat.{ℕ, zero, suc, _+_, _≤_, _<_}
+use Prim.Native.Nat.{ℕ, zero, suc, _≤_, _<_}
 use mathlib.Core.Path.{_≡_, refl, sym, ap, subst, _∙_}
 use mathlib.Core.Bool.{Bool}
 use mathlib.Core.List.{List}
 use native.Mathlib.Omega.{arith}
-use lib.IntN.{ℤ, pos, _+ℤ_}
 use lib.Signed.{_≤ℤ_}
 use Rattle.std.proofs.shelf.Signed.{ints}
 use Rattle.rules.specs.declared.parts.Span.{Span}
 use Rattle.rules.specs.declared.parts.Tie.{Tie}
 use Rattle.rules.specs.Card.{Card, WellMade, spanCount, tieCount, startOf, finishOf, leastOf, mostOf, fromOf, toOf, gapOf, finishAmong, isFinish}
 use Rattle.rules.specs.Game.{Position, Lawful, Legal, Done, Win, Good, heard, after, opening, no-point}
-use Rattle.rules.specs.Theorems.{Looser, Looser-good}
+use Rattle.rules.specs.Theorems.{Looser-good}
 use Rattle.rules.proofs.Basics.{clash, after-nothing, among-is}
 
 -- a card of these parts

@@ -1,27 +1,26 @@
--- Closed tables whose entries are derived tell the mark.
-use Prim.Native.Nat.{ℕ, zero, suc, _+_, _≤_, _<_}
-use mathlib.Core.Path.{_≡_, refl, sym, ap, subst, _∙_}
+-- What tells the mark of a card: a negative loop, and closed tables whose entries are derived.
+use Prim.Native.Nat.{ℕ, zero, suc, _<_}
+use mathlib.Core.Path.{_≡_, refl, subst}
 use mathlib.Core.Logic.{_≢_}
 use native.Mathlib.Omega.{arith}
-use lib.IntN.{ℤ, pos, negℤ, _+ℤ_}
-use lib.Signed.{_≤ℤ_, _<ℤ_}
+use lib.IntN.{ℤ, pos, _+ℤ_}
+use lib.Signed.{_≤ℤ_}
 use Rattle.std.proofs.shelf.Signed.{ints, by-ltZ}
-use Rattle.rules.specs.Card.{Card, WellMade, spanCount, startOf, leastOf}
+use Rattle.rules.specs.Card.{Card, WellMade, spanCount, startOf}
 use Rattle.rules.specs.declared.edges.Kind.{Kind}
 use Rattle.rules.specs.declared.edges.Kind.the-variants.{Plain, Wait, AllMost}
-use Rattle.rules.specs.declared.edges.Edge.{Edge}
 use Rattle.rules.specs.Edges.{edge, given-early, rule-N, rule-M, rule-Mw, rule-S, Derived, by-given, by-rule, Any}
 use Rattle.rules.specs.Game.{Good}
-use Rattle.rules.specs.Tables.{Table, Above, Closed, Traced, SoundAtStart}
-use Rattle.rules.specs.Theorems.{Marks-exact}
+use Rattle.rules.specs.Tables.{Table, Traced, SoundAtStart}
+use Rattle.rules.specs.Theorems.{Loops-lose, Marks-exact}
+use Rattle.rules.proofs.Claims.{no-plan}
 use Rattle.rules.proofs.Closure.{Rulewise, rulewise}
-use Rattle.rules.proofs.Listed.{loops-lose}
+use Rattle.rules.proofs.Derived.{derived-wider}
+use Rattle.rules.proofs.Play.{plan-at-start}
 use Rattle.rules.proofs.Strategy.{tables-win}
 
--- what is derived within narrow limits is derived within wider ones
-pub derived-wider : {card : Card} {Near Far : Edge → Type 0} → ((e : Edge) → Near e → Far e) → {e : Edge} → Derived card Near e → Derived card Far e
-derived-wider wider (by-given g w) = by-given g (wider _ w)
-derived-wider wider (by-rule r a b w) = by-rule r (derived-wider wider a) (derived-wider wider b) (wider _ w)
+pub loops-lose : Loops-lose
+loops-lose card made kind p w loop neg good = no-plan card made (plan-at-start card made good) kind p w loop neg
 
 module _ (card : Card) (D W : Table) (made : WellMade card) (cl : Rulewise card D W) (traced : Traced card D W) (good : Good card) where
   plainly : (p q : ℕ) → p < card .points → q < card .points → p ≢ q → Derived card Any (edge Plain p q (D p q))

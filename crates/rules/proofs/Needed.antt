@@ -1,25 +1,22 @@
 -- Within a minute: a way to win keeps the tables, if their entries are derived.
-use Prim.Native.Nat.{ℕ, zero, suc, _+_, _-_, _≤_, _<_}
-use mathlib.Core.Path.{_≡_, refl, sym, ap, subst, _∙_}
+use Prim.Native.Nat.{ℕ, suc, _+_, _-_, _≤_, _<_}
+use mathlib.Core.Path.{_≡_, refl, ap, _∙_}
 use mathlib.Core.Logic.{_≢_, _⊎_, inl, inr, ⊎-elim}
 use mathlib.Core.Bool.{Bool}
 use native.Mathlib.Omega.{arith}
 use native.Mathlib.Decide.{ℕ-discrete}
 use lib.Dec.{T}
-use lib.IntN.{ℤ, pos, negℤ, _+ℤ_}
+use lib.IntN.{pos, _+ℤ_}
 use lib.Signed.{_≤ℤ_}
 use Rattle.std.specs.declared.option.Option.{Option}
 use Rattle.std.specs.declared.option.Option.the-variants.{Some, None}
 use Rattle.std.proofs.shelf.Signed.{ints}
-use Rattle.rules.specs.Card.{Card, WellMade, spanCount, startOf, finishOf, leastOf, mostOf, isFinish}
-use Rattle.rules.specs.declared.edges.Kind.the-variants.{Plain, Wait}
-use Rattle.rules.specs.declared.edges.Edge.{Edge}
-use Rattle.rules.specs.Edges.{edge, Derived}
+use Rattle.rules.specs.Card.{Card, WellMade, spanCount, startOf, finishOf, leastOf, mostOf}
 use Rattle.rules.specs.Game.{Position, Legal, after, Win, Mid}
 use Rattle.rules.specs.Tables.{Table, Above, Traced, Fits, late}
 use Rattle.rules.proofs.Basics.{clash, same, known-by, after-old, after-back, after-none, finish-late, is-finish, late-cases}
 use Rattle.rules.proofs.Closure.{Rulewise}
-use Rattle.rules.proofs.Plan.{Plan, Lasts, Fine, Consistent, Cut}
+use Rattle.rules.proofs.Plan.{Plan, Consistent, Cut}
 use Rattle.rules.proofs.Claims.{claims}
 use Rattle.rules.proofs.Play.{Follows, plan, plan-stays, plan-later, fine-given}
 

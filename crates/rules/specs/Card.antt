@@ -1,4 +1,5 @@
--- A card, over numbers without a limit. (In the field: a simple temporal network with uncertainty, in whole minutes.)
+-- A card, over numbers without a limit. (In the field: a simple temporal network with uncertainty, in whole minutes.) It says what has to happen
+-- within a number of minutes, what is up to the controller, who gives orders, and what to the kitchen, which lets spans take their time.
 use Prim.Native.Nat.{ℕ, zero, suc, _≤_, _<_}
 use mathlib.Core.Path.{_≡_}
 use mathlib.Core.Bool.{Bool, true, false, cond, _&&_, _||_}
@@ -11,7 +12,8 @@ use Rattle.std.specs.declared.option.Option.the-variants.{Some, None}
 use Rattle.rules.specs.declared.parts.Span.{Span}
 use Rattle.rules.specs.declared.parts.Tie.{Tie}
 
--- The minutes 0 to `horizon` are played. The points (time-points) are the numbers below `points`; spans and ties are numbered by their places.
+-- The minutes 0 to `horizon` are played. The points (time-points) are the numbers below `points`; point 0 is the start. Spans and ties are
+-- numbered by their places.
 pub record Card : Type 0 where
   pub horizon : ℕ
   pub points : ℕ

@@ -1,21 +1,20 @@
--- What is proved of the rules.
+-- What is proved of the rules. Each statement is the contract of a function in src/theorems.rt.
 use Prim.Native.Nat.{ℕ, suc, _+_, _≤_, _<_}
 use mathlib.Core.Path.{_≡_}
 use mathlib.Core.Logic.{_⊎_, _↔_}
 use mathlib.Core.Bool.{Bool}
-use mathlib.Core.List.{List}
+use mathlib.Core.List.{List, _++_}
 use lib.Dec.{T}
-use lib.ListN.{length, getD}
 use lib.IntN.{ℤ, pos}
 use lib.Signed.{_<ℤ_, _≤ℤ_}
 use Rattle.std.specs.declared.option.Option.the-variants.{None}
-use Rattle.std.specs.shelf.Lists.{All}
+use Rattle.std.specs.shelf.Lists.{All, Has}
 use Rattle.rules.specs.Card.{Card, WellMade, tieCount, fromOf, toOf, gapOf, isFinish}
 use Rattle.rules.specs.declared.edges.Kind.{Kind}
 use Rattle.rules.specs.declared.edges.Edge.{Edge}
 use Rattle.rules.specs.declared.edges.Step.{Step}
-use Rattle.rules.specs.Edges.{edge, Given, Derived, Any}
-use Rattle.rules.specs.Steps.{Answer, passes, Reads, given}
+use Rattle.rules.specs.Edges.{edge, Given, Derived, Any, InRange}
+use Rattle.rules.specs.Steps.{given, all-known, AllLawful, Answer, passes, Reads}
 use Rattle.rules.specs.Game.{Position, opening, Lawful, Legal, Done, Good, Mid, CanGive, CanHold, no-point, only, also, after, heard}
 use Rattle.rules.specs.Tables.{Table, Closed, Traced, SoundAtStart, Fits, late}
 use Rattle.rules.specs.Cards.{Stands, examples}
@@ -34,7 +33,7 @@ Lists-tell = (card : Card) → WellMade card → (steps : List Step) → Reads c
 abbrev pub Tables-win : Type 0
 Tables-win = (card : Card) (D W : Table) → WellMade card → Closed card D W → SoundAtStart card D W → Good card
 
--- Closed tables whose entries are derived are sound at the start exactly if the controller can win.
+-- Closed tables whose entries are derived are sound at the start exactly if the controller can win: so they tell the mark.
 abbrev pub Marks-exact : Type 0
 Marks-exact = (card : Card) (D W : Table) → WellMade card → Closed card D W → Traced card D W → Good card ↔ SoundAtStart card D W
 
@@ -42,7 +41,16 @@ Marks-exact = (card : Card) (D W : Table) → WellMade card → Closed card D W 
 
 -- The numbered edges are the given edges.
 abbrev pub Given-numbered : Type 0
-Given-numbered = (card : Card) → WellMade card → (e : Edge) → Given card e ↔ ((i : ℕ) × (i < length (given card)) × (getD (given card) i e ≡ e))
+Given-numbered = (card : Card) → WellMade card → (e : Edge) → Given card e ↔ Has (given card) e
+
+-- A list of lawful steps can be continued by lawful steps until it knows any edge that is derived in range.
+abbrev pub Edges-listed : Type 0
+Edges-listed = (card : Card) (e : Edge) → Derived card InRange e → (steps : List Step) → AllLawful card steps
+    → (more : List Step) × AllLawful card (steps ++ more) × Has (all-known card (steps ++ more)) e
+
+-- So a negative loop that is derived in range has a list of steps that passes.
+abbrev pub Loops-listed : Type 0
+Loops-listed = (card : Card) (kind : Kind) (p : ℕ) (w : ℤ) → Derived card InRange (edge kind p p w) → w <ℤ pos 0 → (steps : List Step) × Reads card steps passes
 
 -- A list has an answer, and only one.
 abbrev pub Some-answer : Type 0

@@ -1,4 +1,4 @@
-//! What must be believed of timing cards: their parts, edges and refusals. The definitions stand in specs/.
+//! What must be believed of timing cards: their parts, edges and refusals, and what is proved of them. The definitions stand in specs/.
 pub mod edges;
 pub mod numbers;
 pub mod parts;

@@ -1,5 +1,5 @@
 //! The theorems: each function below has for its contract what specs/ states of the rules.
-ghost use Rattle.rules.specs.Theorems.{Loops-lose, Lists-tell, Tables-win, Marks-exact, Given-numbered, Some-answer, One-answer};
+ghost use Rattle.rules.specs.Theorems.{Loops-lose, Lists-tell, Tables-win, Marks-exact, Given-numbered, Edges-listed, Loops-listed, Some-answer, One-answer};
 ghost use Rattle.rules.specs.Theorems.{Start-fits, Kitchen-fits, Fits-wins, Fits-exact, Choices-exact, Minute-ends, End-done};
 ghost use Rattle.rules.specs.Theorems.{Looser-good, Examples-stand};
 
@@ -19,9 +19,18 @@ pub fn tables_win() -> u8
     0
 }
 
-/// The numbered edges are the given ones, and every list of steps has one answer.
-pub fn lists_are_read() -> u8
+/// The numbered edges are the given ones; an edge that is derived in range is known to some list of lawful steps, and a negative loop has a list
+/// that passes.
+pub fn edges_are_listed() -> u8
     ensures numbers { λ _. ⌜ Given-numbered ⌝ }
+    ensures edges { λ _. ⌜ Edges-listed ⌝ }
+    ensures loops { λ _. ⌜ Loops-listed ⌝ }
+{
+    0
+}
+
+/// Every list of steps has one answer.
+pub fn lists_are_read() -> u8
     ensures answered { λ _. ⌜ Some-answer ⌝ }
     ensures once { λ _. ⌜ One-answer ⌝ }
 {
