@@ -15,12 +15,8 @@ use Rattle.rules.specs.declared.edges.Kind.{Kind}
 use Rattle.rules.specs.declared.edges.Kind.the-variants.{Plain, Lower, Wait, AllMost}
 use Rattle.rules.specs.declared.edges.Edge.{Edge}
 use Rattle.rules.specs.Card.{Card, leastOf}
-use Rattle.rules.specs.Edges.{edge, Rule, rule-N, rule-U, rule-L, rule-X, rule-R, rule-M, rule-Mw, rule-S}
+use Rattle.rules.specs.Edges.{edge, InRange, Rule, rule-N, rule-U, rule-L, rule-X, rule-R, rule-M, rule-Mw, rule-S}
 use Rattle.steps.specs.Makes.{if-plain, if-lower, if-wait, if-all-most, ranged, chained, turned, by-N, by-U, by-L, by-X, by-R, projected, by-M, by-S, makes}
-
--- the weight is in range
-abbrev pub InRange : Edge → Type 0
-InRange e = (negsuc 999_999 ≤ℤ e .weight) × (e .weight ≤ℤ pos 1_000_000)
 
 -- ---- the edges made
 

@@ -1,0 +1,2 @@
+//! The judge of a card: whether the controller can win, with the tables by which it does.
+pub mod closure;
