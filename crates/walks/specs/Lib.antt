@@ -1,0 +1,2 @@
+pub mod Minutes
+pub mod Pairs
