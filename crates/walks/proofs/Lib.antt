@@ -1,1 +1,3 @@
+mod Tables
+pub mod Walking
 pub mod Wholes

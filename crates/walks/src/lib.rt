@@ -1,4 +1,6 @@
 //! Best weights over walks, once for every kind of weight.
+pub mod closure;
 pub mod minutes;
 pub mod plain_wait;
+mod table;
 pub mod weight;

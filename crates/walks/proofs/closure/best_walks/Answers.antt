@@ -1,0 +1,61 @@
+use mathlib.Core.Path.{_≡_, refl, subst, ap, sym, _∙_}
+use Prim.Native.Nat.{ℕ, suc, _+_, _*_, _/_, _^_, _≤_, _<_}
+use native.Mathlib.Omega.{arith}
+use native.Mathlib.Nat.{mul-div-le, mul-le-mul-right, add-mul}
+use borrow.Author.Needs.{needs}
+use lib.Pow.{pow-pos, pow-mono, pow-add}
+use Rattle.walks.specs.Tables.{cell}
+use Rattle.walks.proofs.Walking.{Laws, best-same, best-one, best-chain, choice-size}
+use Rattle.walks.proofs.closure.best_walks.Given as given
+use Rattle.walks.proofs.closure.best_walks.Needs as need
+
+laws-of : (g : given.Over) → Laws (g .W·Weight .joined) (g .W·Weight .chosen)
+laws-of g = record {
+  join-assoc = g .W·Weight·met .«join_assoc»;
+  choose-assoc = g .W·Weight·met .«choose_assoc»;
+  choose-comm = g .W·Weight·met .«choose_comm»;
+  choose-idem = g .W·Weight·met .«choose_idem»;
+  left-distrib = g .W·Weight·met .«left_distrib»;
+  right-distrib = g .W·Weight·met .«right_distrib»;
+}
+
+-- two weights that are within k edges each, twice as many as the limit lets pass
+twice-small : (a b k limit top : ℕ) → a ≤ k * (limit / top) → b ≤ k * (limit / top) → k + k ≤ top → a + b ≤ limit
+twice-small a b k limit top h j l =
+    omega (arith, mul-le-mul-right {m = k + k} {n = top} (limit / top) l, add-mul k k (limit / top), mul-div-le limit top)
+
+pow-twice : (d : ℕ) → 2 ^ (d + 1) ≡ 2 ^ d + 2 ^ d
+pow-twice d = omega (arith, pow-add 2 d 1)
+
+pub loop-d-holds : need.loop-d-holds
+loop-d-holds g c =
+    (λ p q h j. best-same (laws-of g) _ _ refl (ap (g .W·Weight .mean) (c .copy .ensures .here p q h j)) (best-one (laws-of g) _ _ p q),
+     λ p q h. refl,
+     λ p q h. refl)
+
+pub double-requires : need.double-requires
+double-requires g c κs =
+    let m = g .W·Weight in
+    let small : (p q : ℕ) → p < c .args .n → q < c .args .n → m .size (cell (m .mean) (m .absent) (c .loop-d .out) p q) ≤ 2 ^ c .loop-d .d * (m .limit / 2 ^ c .args .doublings)
+        = λ p q h j. choice-size (laws-of g) _ _ (m .size) (g .W·Weight·met .«join_size») (g .W·Weight·met .«choose_size») _ (c .pre .small) h j (c .loop-d .inv .0 p q h j .made) in
+    (search needs, (search needs, (c .pre .fits,
+     λ p r q h i j. twice-small _ _ (2 ^ c .loop-d .d) (m .limit) (2 ^ c .args .doublings) (small p r h i) (small r q i j)
+     (subst (λ x. x ≤ 2 ^ c .args .doublings) (pow-twice (c .loop-d .d)) (pow-mono (omega arith))))))
+
+pub loop-d-again : need.loop-d-again
+loop-d-again g c =
+    let m = g .W·Weight in
+    let d = c .loop-d .d in
+    (λ p q h j.
+     best-same (laws-of g) _ _ (pow-twice d) (ap (m .mean) (c .copy-in-loop-d .ensures .here p q h j) ∙ c .double .ensures .here p q h j)
+     (best-chain (laws-of g) _ _ {i = 2 ^ d} {j = 2 ^ d} {k = 2 ^ d} (pow-pos d) (omega arith) (omega arith) (c .loop-d .inv .0 p q h j) (λ r i. c .loop-d .inv .0 p r h i) (λ r i. c .loop-d .inv .0 r q i j)),
+     λ p q h. c .copy-in-loop-d .ensures .beyond p q h ∙ c .loop-d .inv .1 p q h,
+     λ p q h. c .double .ensures .beyond p q h ∙ c .loop-d .inv .2 p q h)
+
+pub returns : need.returns
+returns g c =
+    let done : c .args .doublings ≡ c .loop-d .d = omega arith in
+    record {
+      best = λ p q h j. best-same (laws-of g) _ _ (ap (λ d. 2 ^ d) done) refl (c .loop-d .inv .0 p q h j);
+      beyond = (λ p q h. c .loop-d .inv .1 p q h ∙ c .copy .ensures .beyond p q h, c .loop-d .inv .2);
+    }
