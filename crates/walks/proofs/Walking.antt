@@ -1,9 +1,9 @@
 -- Best weights over walks: what the laws of weights give. Assumes nothing.
 use mathlib.Core.Path.{_≡_, refl, sym, ap, _∙_}
 use mathlib.Core.Logic.{⊎-elim}
-use Prim.Native.Nat.{ℕ, zero, suc, _+_, _-_, _*_, _≤_, _<_, max}
+use Prim.Native.Nat.{ℕ, zero, suc, _+_, _-_, _*_, _/_, _≤_, _<_, max}
 use native.Mathlib.Omega.{arith}
-use native.Mathlib.Nat.{mul-le-mul-right, suc-mul, one-mul}
+use native.Mathlib.Nat.{add-mul, mul-div-le, mul-le-mul-right, suc-mul, one-mul}
 use Rattle.std.proofs.shelf.Tests.{cases-lt}
 use Rattle.walks.specs.Walks.{Walk, edges, weight, Choice, Best, through, edge, onward, walk, either}
 
@@ -16,13 +16,22 @@ pub record Laws {V : Type 0} (join choose : V → V → V) : Type 0 where
   pub left-distrib : (a b c : V) → join a (choose b c) ≡ choose (join a b) (join a c)
   pub right-distrib : (a b c : V) → join (choose a b) c ≡ choose (join a c) (join b c)
 
--- one way more: by a way through x and y, or by none where x or y is absent
+-- one way more, through x and y; nothing changes where x or y is absent
 module _ {V : Type 0} (join choose : V → V → V) where
-  pub one-more : (a s t x x′ y : V) → a ≡ choose s (join x y) → s ≡ t → x ≡ x′ → a ≡ choose t (join x′ y)
-  one-more a s t x x′ y e f h = cc
+  pub one-more : (a s t x x′ y y′ : V) → a ≡ choose s (join x y) → s ≡ t → x ≡ x′ → y ≡ y′ → a ≡ choose t (join x′ y′)
+  one-more a s t x x′ y y′ e f h i = cc
 
-  pub none-more : (none : V) → ((v : V) → choose v none ≡ v) → ((v : V) → join none v ≡ none) → (a t x y : V) → a ≡ t → x ≡ none → a ≡ choose t (join x y)
-  none-more none loses before a t x y e f = let h = loses t in let k = before y in cc
+  module _ (none : V) (choose-absent : (v : V) → choose v none ≡ v) (a t x y : V) (e : a ≡ t) where
+    pub none-before : ((v : V) → join none v ≡ none) → x ≡ none → a ≡ choose t (join x y)
+    none-before absent-join f = let h = choose-absent t in let k = absent-join y in cc
+
+    pub none-after : ((v : V) → join v none ≡ none) → y ≡ none → a ≡ choose t (join x y)
+    none-after join-absent f = let h = choose-absent t in let k = join-absent x in cc
+
+-- what i and j edges weigh fits, joined, if top edges fit
+pub edges-fit : (a b i j limit top : ℕ) → a ≤ i * (limit / top) → b ≤ j * (limit / top) → i + j ≤ top → a + b ≤ limit
+edges-fit a b i j limit top h k l =
+    omega (arith, mul-le-mul-right {m = i + j} {n = top} (limit / top) l, add-mul i j (limit / top), mul-div-le limit top)
 
 -- a walk has an edge
 one-edge : {n p q : ℕ} (w : Walk n p q) → 1 ≤ edges w

@@ -3,4 +3,5 @@ pub mod closure;
 pub mod minutes;
 pub mod plain_wait;
 mod table;
+pub mod target;
 pub mod weight;

@@ -1,11 +1,10 @@
-use mathlib.Core.Path.{_≡_, refl, subst, ap, sym, _∙_}
-use Prim.Native.Nat.{ℕ, suc, _+_, _*_, _/_, _^_, _≤_, _<_}
+use mathlib.Core.Path.{_≡_, refl, subst, ap, _∙_}
+use Prim.Native.Nat.{ℕ, _+_, _*_, _/_, _^_, _≤_, _<_}
 use native.Mathlib.Omega.{arith}
-use native.Mathlib.Nat.{mul-div-le, mul-le-mul-right, add-mul}
 use borrow.Author.Needs.{needs}
 use lib.Pow.{pow-pos, pow-mono, pow-add}
 use Rattle.walks.specs.Tables.{cell}
-use Rattle.walks.proofs.Walking.{Laws, best-same, best-one, best-chain, choice-size}
+use Rattle.walks.proofs.Walking.{Laws, best-same, best-one, best-chain, choice-size, edges-fit}
 use Rattle.walks.proofs.closure.best_walks.Given as given
 use Rattle.walks.proofs.closure.best_walks.Needs as need
 
@@ -18,11 +17,6 @@ laws-of g = record {
   left-distrib = g .W·Weight·met .«left_distrib»;
   right-distrib = g .W·Weight·met .«right_distrib»;
 }
-
--- two weights that are within k edges each, twice as many as the limit lets pass
-twice-small : (a b k limit top : ℕ) → a ≤ k * (limit / top) → b ≤ k * (limit / top) → k + k ≤ top → a + b ≤ limit
-twice-small a b k limit top h j l =
-    omega (arith, mul-le-mul-right {m = k + k} {n = top} (limit / top) l, add-mul k k (limit / top), mul-div-le limit top)
 
 pow-twice : (d : ℕ) → 2 ^ (d + 1) ≡ 2 ^ d + 2 ^ d
 pow-twice d = omega (arith, pow-add 2 d 1)
@@ -39,7 +33,7 @@ double-requires g c κs =
     let small : (p q : ℕ) → p < c .args .n → q < c .args .n → m .size (cell (m .mean) (m .absent) (c .loop-d .out) p q) ≤ 2 ^ c .loop-d .d * (m .limit / 2 ^ c .args .doublings)
         = λ p q h j. choice-size (laws-of g) _ _ (m .size) (g .W·Weight·met .«join_size») (g .W·Weight·met .«choose_size») _ (c .pre .small) h j (c .loop-d .inv .0 p q h j .made) in
     (search needs, (search needs, (c .pre .fits,
-     λ p r q h i j. twice-small _ _ (2 ^ c .loop-d .d) (m .limit) (2 ^ c .args .doublings) (small p r h i) (small r q i j)
+     λ p r q h i j. edges-fit _ _ (2 ^ c .loop-d .d) (2 ^ c .loop-d .d) (m .limit) (2 ^ c .args .doublings) (small p r h i) (small r q i j)
      (subst (λ x. x ≤ 2 ^ c .args .doublings) (pow-twice (c .loop-d .d)) (pow-mono (omega arith))))))
 
 pub loop-d-again : need.loop-d-again

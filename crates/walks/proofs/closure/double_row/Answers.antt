@@ -1,12 +1,11 @@
-use mathlib.Core.Path.{_≡_, ap, _∙_, sym}
+use mathlib.Core.Path.{_≡_, refl, ap, _∙_, sym}
 use mathlib.Core.List.{[]}
-use Prim.Native.Nat.{ℕ, suc, _<_}
+use Prim.Native.Nat.{_<_}
 use native.Mathlib.Numerals.{add-one}
 use native.Mathlib.Omega.{arith}
-use borrow.Author.Needs.{needs}
 use lib.ListN.{length, getD}
 use Rattle.std.proofs.shelf.Lists.{getD-default}
-use Rattle.walks.proofs.Walking.{one-more, none-more}
+use Rattle.walks.proofs.Walking.{one-more, none-before}
 use Rattle.walks.proofs.closure.double_row.Needs as need
 use Rattle.walks.proofs.closure.double_row.Needs.{then-not-is-absent, else-not-is-absent}
 
@@ -18,7 +17,8 @@ loop-r-again g c q h =
     rw add-one
     (elim (c .if-not-is-absent .came) [
       then-not-is-absent w ↦
-        one-more (m .joined) (m .chosen) _ _ _ _ _ _ (ap (λ x. m .mean (getD x q (m .absent))) (w .into-is) ∙ w .extend .ensures q h) (c .loop-r .inv q h) read
+        one-more (m .joined) (m .chosen) _ _ _ _ _ _ _ (ap (λ x. m .mean (getD x q (m .absent))) (w .into-is) ∙ w .extend .ensures q h) (c .loop-r .inv q h) read refl
       | else-not-is-absent w ↦
-        none-more (m .joined) (m .chosen) (m .mean (m .absent)) (g .W·Weight·met .«choose_absent») (g .W·Weight·met .«absent_join») _ _ _ _
-          (ap (λ x. m .mean (getD x q (m .absent))) (w .into-is) ∙ c .loop-r .inv q h) (sym read ∙ c .is-absent .ensures .0 (w .if-not-is-absent .left)) ])
+        none-before (m .joined) (m .chosen) (m .mean (m .absent)) (g .W·Weight·met .«choose_absent») _ _ _ _
+          (ap (λ x. m .mean (getD x q (m .absent))) (w .into-is) ∙ c .loop-r .inv q h)
+          (g .W·Weight·met .«absent_join») (sym read ∙ c .is-absent .ensures .0 (w .if-not-is-absent .left)) ])

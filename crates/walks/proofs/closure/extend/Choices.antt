@@ -1,7 +1,6 @@
 use mathlib.Core.Path.{_≡_}
-use Prim.Native.Nat.{ℕ, _<_, _≤_}
-use lib.ListN.{getD}
-use Rattle.walks.specs.Tables.{at}
+use Prim.Native.Nat.{ℕ, _<_}
+use Rattle.walks.specs.Tables.{at, Beyond-row}
 use Rattle.walks.proofs.closure.extend.Given as given
 
 -- the entries below q are chosen, and the others stand as they did
@@ -9,4 +8,4 @@ abbrev pub Inv-loop-q : given.InvT-loop-q
 Inv-loop-q g l =
     let m = g .W·Weight in
     ((k : ℕ) → k < l .q → at (m .mean) (m .absent) (l .into) k ≡ m .chosen (at (m .mean) (m .absent) (l .entry .into) k) (m .joined (m .mean (l .first)) (at (m .mean) (m .absent) (l .row) k)))
-    × ((k : ℕ) → l .q ≤ k → getD (l .into) k (m .absent) ≡ getD (l .entry .into) k (m .absent))
+    × Beyond-row (m .absent) (l .q) (l .entry .into) (l .into)

@@ -1,0 +1,60 @@
+//! Best weights over walks to one target, edge by edge.
+ghost use mathlib.Core.Path.{_≡_};
+ghost use Prim.Native.Nat.{ℕ, _+_, _/_, _<_, _≤_};
+ghost use lib.ListN.{getD};
+ghost use Rattle.walks.specs.Tables.{entry, at, cell, Small, Beyond-row};
+ghost use Rattle.walks.specs.Walks.{Best, through};
+use crate::weight::Weight;
+
+/// Writes the first n weights of column q into `into`.
+fn get_column<W: Weight, const N: usize>(edges: &[[W; N]; N], q: usize, into: &mut [W; N], n: usize)
+    requires { ⌜ n ≤ N ⌝ ∗ ⌜ q < N ⌝ }
+    ensures here { λ _. ⌜ ((p : ℕ) → p < n → getD (now (into .exit)) p absent ≡ entry absent (now (edges .entry)) p q) ⌝ }
+    ensures beyond { λ _. ⌜ Beyond-row absent n (now (into .entry)) (now (into .exit)) ⌝ }
+{
+    for p in 0..n {
+        into[p] = edges[p][q];
+    }
+}
+
+/// Chooses each of the first n weights of `into` with the way by an edge to r and then by `last`.
+fn prepend<W: Weight, const N: usize>(edges: &[[W; N]; N], r: usize, last: W, into: &mut [W; N], n: usize)
+    requires fits { ⌜ n ≤ N ⌝ ∗ ⌜ r < n ⌝ }
+    requires small { ⌜ ((p : ℕ) → p < n → size (cell mean absent (now edges) p r) + size (mean last) ≤ limit) ⌝ }
+    ensures here { λ _. ⌜ ((p : ℕ) → p < n → at mean absent (now (into .exit)) p ≡ chosen (at mean absent (now (into .entry)) p) (joined (cell mean absent (now (edges .entry)) p r) (mean last))) ⌝ }
+    ensures beyond { λ _. ⌜ Beyond-row absent n (now (into .entry)) (now (into .exit)) ⌝ }
+{
+    for p in 0..n {
+        into[p] = into[p].choose(edges[p][r].join(last));
+    }
+}
+
+/// From the best weights over walks of some length to those over walks of one edge more.
+fn lengthen<W: Weight, const N: usize>(edges: &[[W; N]; N], best: &mut [W; N], n: usize)
+    requires fits { ⌜ n ≤ N ⌝ }
+    requires small { ⌜ ((p r : ℕ) → p < n → r < n → size (cell mean absent (now edges) p r) + size (at mean absent (now best) r) ≤ limit) ⌝ }
+    ensures here { λ _. ⌜ ((p : ℕ) → p < n → at mean absent (now (best .exit)) p ≡ through joined chosen (at mean absent (now (best .entry)) p) (cell mean absent (now (edges .entry)) p) (at mean absent (now (best .entry))) n) ⌝ }
+    ensures beyond { λ _. ⌜ Beyond-row absent n (now (best .entry)) (now (best .exit)) ⌝ }
+{
+    let shorter = *best;
+    for r in 0..n {
+        let last = shorter[r];
+        if !last.is_absent() {
+            prepend(edges, r, last, best, n);
+        }
+    }
+}
+
+/// The best weight over all walks of 1 to k edges, from each of the first n points to `target`.
+/// The other entries of `out` stay.
+pub fn best_walks_to<W: Weight, const N: usize>(edges: &[[W; N]; N], target: usize, out: &mut [W; N], n: usize, k: usize)
+    requires fits { ⌜ n ≤ N ⌝ ∗ ⌜ target < n ⌝ ∗ ⌜ 0 < k ⌝ }
+    requires small { ⌜ Small size (cell mean absent (now edges)) n (limit / k) ⌝ }
+    ensures best { λ _. ⌜ ((p : ℕ) → p < n → Best joined chosen (cell mean absent (now (edges .entry))) n k p target (at mean absent (now (out .exit)) p)) ⌝ }
+    ensures beyond { λ _. ⌜ Beyond-row absent n (now (out .entry)) (now (out .exit)) ⌝ }
+{
+    get_column(edges, target, out, n);
+    for j in 1..k {
+        lengthen(edges, out, n);
+    }
+}
