@@ -1,3 +1,4 @@
+pub mod Bests
 mod Tables
 pub mod Walking
-pub mod Wholes
+mod Wholes

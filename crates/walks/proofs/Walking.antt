@@ -5,6 +5,7 @@ use Prim.Native.Nat.{ℕ, zero, suc, _+_, _-_, _*_, _/_, _≤_, _<_, max}
 use native.Mathlib.Omega.{arith}
 use native.Mathlib.Nat.{add-mul, mul-div-le, mul-le-mul-right, suc-mul, one-mul}
 use Rattle.std.proofs.shelf.Tests.{cases-lt}
+use Rattle.walks.specs.Tables.{Small}
 use Rattle.walks.specs.Walks.{Walk, edges, weight, Choice, Best, through, edge, onward, walk, either}
 
 -- the laws that the trait states
@@ -175,15 +176,19 @@ module _ {V : Type 0} {join choose : V → V → V} (laws : Laws join choose) (b
         (λ m. wins-trans _ b _ (through-first b a c n) (s .wins w m))
         (cases-lt i (edges w))
 
-  module _ (size : V → ℕ) (join-size : (a b : V) → size (join a b) ≤ size a + size b) (choose-size : (a b : V) → size (choose a b) ≤ max (size a) (size b))
-      (m : ℕ) (small : (p q : ℕ) → p < n → q < n → size (between p q) ≤ m) where
-    weight-size : {p q : ℕ} (w : Walk n p q) → p < n → q < n → size (weighs w) ≤ edges w * m
-    unfolding edges weight
-    weight-size (edge p q) i j = rw one-mul (small p q i j)
-    weight-size (onward p r q h w) i j =
-        omega (arith, join-size (between p r) (weighs w), small p r i h, weight-size w h j, suc-mul (edges w) m)
+-- a bound on weights that grows with the walks' length
+module _ {V : Type 0} {join choose : V → V → V} (size : V → ℕ)
+    (join-size : (a b : V) → size (join a b) ≤ size a + size b) (choose-size : (a b : V) → size (choose a b) ≤ max (size a) (size b))
+    {between : ℕ → ℕ → V} {n m : ℕ} (small : Small size between n m) where
+  weight-size : {p q : ℕ} (w : Walk n p q) → p < n → q < n → size (weight join between w) ≤ edges w * m
+  unfolding edges weight
+  weight-size (edge p q) i j = rw one-mul (small p q i j)
+  weight-size (onward p r q h w) i j =
+      omega (arith, join-size (between p r) (weight join between w), small p r i h, weight-size w h j, suc-mul (edges w) m)
 
-    -- a bound that grows with the walks' length
-    pub choice-size : {k p q : ℕ} {a : V} → p < n → q < n → Chosen k p q a → size a ≤ k * m
-    choice-size {k} i j (walk w l) = omega (arith, weight-size w i j, mul-le-mul-right {m = edges w} {n = k} m l)
-    choice-size i j (either {a} {b} s t) = omega (arith, choose-size a b, choice-size i j s, choice-size i j t)
+  choice-size : {k p q : ℕ} {a : V} → p < n → q < n → Choice join choose between n k p q a → size a ≤ k * m
+  choice-size {k} i j (walk w l) = omega (arith, weight-size w i j, mul-le-mul-right {m = edges w} {n = k} m l)
+  choice-size i j (either {a} {b} s t) = omega (arith, choose-size a b, choice-size i j s, choice-size i j t)
+
+  pub best-size : {k p q : ℕ} {b : V} → p < n → q < n → Best join choose between n k p q b → size b ≤ k * m
+  best-size i j h = choice-size i j (h .made)

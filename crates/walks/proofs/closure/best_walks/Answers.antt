@@ -4,7 +4,7 @@ use native.Mathlib.Omega.{arith}
 use borrow.Author.Needs.{needs}
 use lib.Pow.{pow-pos, pow-mono, pow-add}
 use Rattle.walks.specs.Tables.{cell}
-use Rattle.walks.proofs.Walking.{Laws, best-same, best-one, best-chain, choice-size, edges-fit}
+use Rattle.walks.proofs.Walking.{Laws, best-same, best-one, best-chain, best-size, edges-fit}
 use Rattle.walks.proofs.closure.best_walks.Given as given
 use Rattle.walks.proofs.closure.best_walks.Needs as need
 
@@ -31,7 +31,7 @@ pub double-requires : need.double-requires
 double-requires g c κs =
     let m = g .W·Weight in
     let small : (p q : ℕ) → p < c .args .n → q < c .args .n → m .size (cell (m .mean) (m .absent) (c .loop-d .out) p q) ≤ 2 ^ c .loop-d .d * (m .limit / 2 ^ c .args .doublings)
-        = λ p q h j. choice-size (laws-of g) _ _ (m .size) (g .W·Weight·met .«join_size») (g .W·Weight·met .«choose_size») _ (c .pre .small) h j (c .loop-d .inv .0 p q h j .made) in
+        = λ p q h j. best-size (m .size) (g .W·Weight·met .«join_size») (g .W·Weight·met .«choose_size») (c .pre .small) h j (c .loop-d .inv .0 p q h j) in
     (search needs, (search needs, (c .pre .fits,
      λ p r q h i j. edges-fit _ _ (2 ^ c .loop-d .d) (2 ^ c .loop-d .d) (m .limit) (2 ^ c .args .doublings) (small p r h i) (small r q i j)
      (subst (λ x. x ≤ 2 ^ c .args .doublings) (pow-twice (c .loop-d .d)) (pow-mono (omega arith))))))
