@@ -5,6 +5,7 @@ ghost use Rattle.walks.specs.Tables.{at, cell, Small, Beyond};
 ghost use Rattle.walks.specs.Walks.{Best, through};
 use crate::table::copy;
 use crate::table::put_row;
+use crate::table::weight_at;
 use crate::weight::Weight;
 
 /// Chooses each of the first n weights of `into` with the way by `first` and then by `row`.
@@ -14,7 +15,7 @@ fn extend<W: Weight, const N: usize>(into: &mut [W; N], n: usize, first: W, row:
     ensures { λ _. ⌜ ((q : ℕ) → q < n → at mean absent (now (into .exit)) q ≡ chosen (at mean absent (now (into .entry)) q) (joined (mean first) (at mean absent (now (row .entry)) q))) ⌝ }
 {
     for q in 0..n {
-        into[q] = into[q].choose(first.join(row[q]));
+        into[q] = into[q].choose(first.join(weight_at(row, q)));
     }
 }
 
@@ -26,7 +27,7 @@ fn double_row<W: Weight, const N: usize>(best: &[[W; N]; N], into: &mut [W; N], 
 {
     *into = best[p];
     for r in 0..n {
-        let first = best[p][r];
+        let first = weight_at(&best[p], r);
         if !first.is_absent() {
             extend(into, n, first, &best[r]);
         }

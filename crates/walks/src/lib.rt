@@ -2,6 +2,6 @@
 pub mod closure;
 pub mod minutes;
 pub mod plain_wait;
-mod table;
+pub mod table;
 pub mod target;
 pub mod weight;

@@ -1,9 +1,26 @@
-//! Copies within tables of weights.
+//! Tables of weights as arrays of rows: reads, writes and copies.
 ghost use mathlib.Core.Path.{_≡_};
 ghost use Prim.Native.Nat.{ℕ, _<_, _≤_};
 ghost use lib.ListN.{getD};
 ghost use Rattle.walks.specs.Tables.{entry, Beyond};
 use crate::weight::Weight;
+
+/// The weight at place q of a row.
+pub fn weight_at<W: Weight, const N: usize>(row: &[W; N], q: usize) -> W
+    requires { ⌜ q < N ⌝ }
+    ensures { λ r. ⌜ r ≡ getD (now (row .entry)) q absent ⌝ }
+{
+    row[q]
+}
+
+/// Writes a weight into row p at place q.
+pub fn put_weight<W: Weight, const N: usize>(table: &mut [[W; N]; N], p: usize, q: usize, weight: W)
+    requires { ⌜ p < N ⌝ ∗ ⌜ q < N ⌝ }
+    ensures here { λ _. ⌜ entry absent (now (table .exit)) p q ≡ weight ⌝ }
+    ensures others { λ _. ⌜ ((i j : ℕ) → (i ≡ p → j ≡ q → ⊥) → entry absent (now (table .exit)) i j ≡ entry absent (now (table .entry)) i j) ⌝ }
+{
+    table[p][q] = weight;
+}
 
 /// Writes the first n weights of `row` into row p of `into`.
 pub(crate) fn put_row<W: Weight, const N: usize>(into: &mut [[W; N]; N], n: usize, p: usize, row: &[W; N])
@@ -12,7 +29,7 @@ pub(crate) fn put_row<W: Weight, const N: usize>(into: &mut [[W; N]; N], n: usiz
     ensures others { λ _. ⌜ ((k q : ℕ) → (k ≡ p → q < n → ⊥) → entry absent (now (into .exit)) k q ≡ entry absent (now (into .entry)) k q) ⌝ }
 {
     for q in 0..n {
-        into[p][q] = row[q];
+        put_weight(into, p, q, weight_at(row, q));
     }
 }
 

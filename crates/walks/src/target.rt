@@ -4,6 +4,7 @@ ghost use Prim.Native.Nat.{ℕ, _+_, _/_, _<_, _≤_};
 ghost use lib.ListN.{getD};
 ghost use Rattle.walks.specs.Tables.{entry, at, cell, Small, Beyond-row};
 ghost use Rattle.walks.specs.Walks.{Best, through};
+use crate::table::weight_at;
 use crate::weight::Weight;
 
 /// Writes the first n weights of column q into `into`.
@@ -13,7 +14,7 @@ fn get_column<W: Weight, const N: usize>(edges: &[[W; N]; N], q: usize, into: &m
     ensures beyond { λ _. ⌜ Beyond-row absent n (now (into .entry)) (now (into .exit)) ⌝ }
 {
     for p in 0..n {
-        into[p] = edges[p][q];
+        into[p] = weight_at(&edges[p], q);
     }
 }
 
@@ -25,7 +26,7 @@ fn prepend<W: Weight, const N: usize>(edges: &[[W; N]; N], r: usize, last: W, in
     ensures beyond { λ _. ⌜ Beyond-row absent n (now (into .entry)) (now (into .exit)) ⌝ }
 {
     for p in 0..n {
-        into[p] = into[p].choose(edges[p][r].join(last));
+        into[p] = into[p].choose(weight_at(&edges[p], r).join(last));
     }
 }
 
@@ -38,7 +39,7 @@ fn lengthen<W: Weight, const N: usize>(edges: &[[W; N]; N], best: &mut [W; N], n
 {
     let shorter = *best;
     for r in 0..n {
-        let last = shorter[r];
+        let last = weight_at(&shorter, r);
         if !last.is_absent() {
             prepend(edges, r, last, best, n);
         }

@@ -1,10 +1,6 @@
 use mathlib.Core.Path.{_≡_, refl, ap, _∙_, sym}
-use mathlib.Core.List.{[]}
-use Prim.Native.Nat.{_<_}
 use native.Mathlib.Numerals.{add-one}
-use native.Mathlib.Omega.{arith}
-use lib.ListN.{length, getD}
-use Rattle.std.proofs.shelf.Lists.{getD-default}
+use lib.ListN.{getD}
 use Rattle.walks.proofs.Walking.{one-more, none-before}
 use Rattle.walks.proofs.closure.double_row.Needs as need
 use Rattle.walks.proofs.closure.double_row.Needs.{then-not-is-absent, else-not-is-absent}
@@ -12,8 +8,7 @@ use Rattle.walks.proofs.closure.double_row.Needs.{then-not-is-absent, else-not
 pub loop-r-again : need.loop-r-again
 loop-r-again g c q h =
     let m = g .W·Weight in
-    let lt : c .loop-r .r < length (getD (c .args .best .now) (c .args .p) []) = omega arith in
-    let read = ap (m .mean) (getD-default (getD (c .args .best .now) (c .args .p) []) (c .loop-r .r) (c .index-best-p .result) (m .absent) lt) in
+    let read = ap (m .mean) (c .weight-at-first .ensures) in
     rw add-one
     (elim (c .if-not-is-absent .came) [
       then-not-is-absent w ↦
