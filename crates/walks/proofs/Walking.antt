@@ -4,9 +4,9 @@ use mathlib.Core.Logic.{⊎-elim}
 use Prim.Native.Nat.{ℕ, zero, suc, _+_, _-_, _*_, _/_, _≤_, _<_, max}
 use native.Mathlib.Omega.{arith}
 use native.Mathlib.Nat.{add-mul, mul-div-le, mul-le-mul-right, suc-mul, one-mul}
-use Rattle.std.proofs.shelf.Tests.{cases-lt}
-use Rattle.walks.specs.Tables.{Small}
-use Rattle.walks.specs.Walks.{Walk, edges, weight, Choice, Best, through, edge, onward, walk, either}
+use Rattle.std.proofs.shelf.Tests.{cases-lt, cond-below, cond-above}
+use Rattle.walks.specs.Tables.{Small, Small-row}
+use Rattle.walks.specs.Walks.{Walk, edges, weight, Choice, Best, toward, through, edge, onward, walk, either}
 
 -- the laws that the trait states
 pub record Laws {V : Type 0} (join choose : V → V → V) : Type 0 where
@@ -179,16 +179,32 @@ module _ {V : Type 0} {join choose : V → V → V} (laws : Laws join choose) (b
 -- a bound on weights that grows with the walks' length
 module _ {V : Type 0} {join choose : V → V → V} (size : V → ℕ)
     (join-size : (a b : V) → size (join a b) ≤ size a + size b) (choose-size : (a b : V) → size (choose a b) ≤ max (size a) (size b))
-    {between : ℕ → ℕ → V} {n m : ℕ} (small : Small size between n m) where
-  weight-size : {p q : ℕ} (w : Walk n p q) → p < n → q < n → size (weight join between w) ≤ edges w * m
+    {between : ℕ → ℕ → V} {n m q : ℕ} (small : Small size between n m) (small-last : (p : ℕ) → p < n → size (between p q) ≤ m) where
+  weight-size : {p : ℕ} (w : Walk n p q) → p < n → size (weight join between w) ≤ edges w * m
   unfolding edges weight
-  weight-size (edge p q) i j = rw one-mul (small p q i j)
-  weight-size (onward p r q h w) i j =
-      omega (arith, join-size (between p r) (weight join between w), small p r i h, weight-size w h j, suc-mul (edges w) m)
+  weight-size (edge p q) i = rw one-mul (small-last p i)
+  weight-size (onward p r q h w) i =
+      omega (arith, join-size (between p r) (weight join between w), small p r i h, weight-size w h, suc-mul (edges w) m)
 
-  choice-size : {k p q : ℕ} {a : V} → p < n → q < n → Choice join choose between n k p q a → size a ≤ k * m
-  choice-size {k} i j (walk w l) = omega (arith, weight-size w i j, mul-le-mul-right {m = edges w} {n = k} m l)
-  choice-size i j (either {a} {b} s t) = omega (arith, choose-size a b, choice-size i j s, choice-size i j t)
+  choice-size : {k p : ℕ} {a : V} → p < n → Choice join choose between n k p q a → size a ≤ k * m
+  choice-size {k} i (walk w l) = omega (arith, weight-size w i, mul-le-mul-right {m = edges w} {n = k} m l)
+  choice-size i (either {a} {b} s t) = omega (arith, choose-size a b, choice-size i s, choice-size i t)
 
-  pub best-size : {k p q : ℕ} {b : V} → p < n → q < n → Best join choose between n k p q b → size b ≤ k * m
-  best-size i j h = choice-size i j (h .made)
+  pub best-size : {k p : ℕ} {b : V} → p < n → Best join choose between n k p q b → size b ≤ k * m
+  best-size i h = choice-size i (h .made)
+
+-- the edges to a target, and the others
+module _ {V : Type 0} (n : ℕ) (between : ℕ → ℕ → V) (last : ℕ → V) where
+  pub toward-other : (p q : ℕ) → q < n → toward n between last p q ≡ between p q
+  unfolding toward
+  toward-other p q h = sym (cond-below q n _ _ h)
+
+  pub toward-last : (p : ℕ) → toward n between last p n ≡ last p
+  unfolding toward
+  toward-last p = sym (cond-above n n _ _ _ (omega arith) refl)
+
+  pub toward-small : {m : ℕ} (size : V → ℕ) → Small size between n m → Small size (toward n between last) n m
+  toward-small size h p q i j = rw (toward-other p q j) (h p q i j)
+
+  pub toward-small-last : {m : ℕ} (size : V → ℕ) → Small-row size last n m → (p : ℕ) → p < n → size (toward n between last p n) ≤ m
+  toward-small-last size h p i = rw (toward-last p) (h p i)

@@ -20,6 +20,10 @@ cell mean d rows p q = mean (entry d rows p q)
 abbrev pub Small : {V : Type 0} → (V → ℕ) → (ℕ → ℕ → V) → ℕ → ℕ → Type 0
 Small size between n m = (p q : ℕ) → p < n → q < n → size (between p q) ≤ m
 
+-- nor one in the first n places of a row
+abbrev pub Small-row : {V : Type 0} → (V → ℕ) → (ℕ → V) → ℕ → ℕ → Type 0
+Small-row size last n m = (p : ℕ) → p < n → size (last p) ≤ m
+
 -- two tables have the same entries but for the first n of the first n rows
 abbrev pub Beyond : {W : Type 0} → W → ℕ → List (List W) → List (List W) → Type 0
 Beyond d n rows rows′ = (p q : ℕ) → (p < n → q < n → ⊥) → entry d rows′ p q ≡ entry d rows p q

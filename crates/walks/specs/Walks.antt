@@ -1,6 +1,8 @@
 -- Walks, what they weigh, and what the best weight over them is. Assumes nothing.
+use mathlib.Core.Bool.{cond}
 use mathlib.Core.Path.{_≡_}
 use Prim.Native.Nat.{ℕ, zero, suc, _<_, _≤_}
+use lib.Dec.{ltb}
 
 -- a walk from p to q, as its edges end to end: one edge, or an edge to a point below n and then a walk from there
 pub data Walk (n : ℕ) : ℕ → ℕ → Type 0 where
@@ -28,6 +30,10 @@ module _ {V : Type 0} (join choose : V → V → V) (between : ℕ → ℕ → V
   pub record Best (b : V) : Type 0 where
     pub wins : (w : Walk n p q) → edges w ≤ k → choose b (weight join between w) ≡ b
     pub made : Choice b
+
+-- the edges between the first n points, and an edge from each of them to a target, which is point n
+unfoldable pub toward : {V : Type 0} → ℕ → (ℕ → ℕ → V) → (ℕ → V) → ℕ → ℕ → V
+toward n between last p q = cond (ltb q n) (between p q) (last p)
 
 -- b, chosen with every way through one point below m: a to that point, and c from there
 abbrev pub through : {V : Type 0} → (V → V → V) → (V → V → V) → V → (ℕ → V) → (ℕ → V) → ℕ → V

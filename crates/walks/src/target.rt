@@ -2,19 +2,19 @@
 ghost use mathlib.Core.Path.{_≡_};
 ghost use Prim.Native.Nat.{ℕ, _+_, _/_, _<_, _≤_};
 ghost use lib.ListN.{getD};
-ghost use Rattle.walks.specs.Tables.{entry, at, cell, Small, Beyond-row};
-ghost use Rattle.walks.specs.Walks.{Best, through};
+ghost use Rattle.walks.specs.Tables.{at, cell, Small, Small-row, Beyond-row};
+ghost use Rattle.walks.specs.Walks.{Best, toward, through};
 use crate::table::weight_at;
 use crate::weight::Weight;
 
-/// Writes the first n weights of column q into `into`.
-fn get_column<W: Weight, const N: usize>(edges: &[[W; N]; N], q: usize, into: &mut [W; N], n: usize)
-    requires { ⌜ n ≤ N ⌝ ∗ ⌜ q < N ⌝ }
-    ensures here { λ _. ⌜ ((p : ℕ) → p < n → getD (now (into .exit)) p absent ≡ entry absent (now (edges .entry)) p q) ⌝ }
+/// Writes the first n weights of `row` into `into`.
+fn copy_row<W: Weight, const N: usize>(row: &[W; N], into: &mut [W; N], n: usize)
+    requires { ⌜ n ≤ N ⌝ }
+    ensures here { λ _. ⌜ ((p : ℕ) → p < n → getD (now (into .exit)) p absent ≡ getD (now (row .entry)) p absent) ⌝ }
     ensures beyond { λ _. ⌜ Beyond-row absent n (now (into .entry)) (now (into .exit)) ⌝ }
 {
     for p in 0..n {
-        into[p] = weight_at(&edges[p], q);
+        into[p] = weight_at(row, p);
     }
 }
 
@@ -46,15 +46,21 @@ fn lengthen<W: Weight, const N: usize>(edges: &[[W; N]; N], best: &mut [W; N], n
     }
 }
 
-/// The best weight over all walks of 1 to k edges, from each of the first n points to `target`.
-/// The other entries of `out` stay.
-pub fn best_walks_to<W: Weight, const N: usize>(edges: &[[W; N]; N], target: usize, out: &mut [W; N], n: usize, k: usize)
-    requires fits { ⌜ n ≤ N ⌝ ∗ ⌜ target < n ⌝ ∗ ⌜ 0 < k ⌝ }
-    requires small { ⌜ Small size (cell mean absent (now edges)) n (limit / k) ⌝ }
-    ensures best { λ _. ⌜ ((p : ℕ) → p < n → Best joined chosen (cell mean absent (now (edges .entry))) n k p target (at mean absent (now (out .exit)) p)) ⌝ }
+/// The best weight over all walks of 1 to k edges, from each of the first n points to one target: `last` has the
+/// weights of the edges to the target, and `edges` those of the other edges. The other entries of `out` stay.
+pub fn best_walks_to<W: Weight, const N: usize>(
+    edges: &[[W; N]; N],
+    last: &[W; N],
+    out: &mut [W; N],
+    n: usize,
+    k: usize,
+)
+    requires fits { ⌜ n ≤ N ⌝ ∗ ⌜ 0 < k ⌝ }
+    requires small { ⌜ Small size (cell mean absent (now edges)) n (limit / k) ⌝ ∗ ⌜ Small-row size (at mean absent (now last)) n (limit / k) ⌝ }
+    ensures best { λ _. ⌜ ((p : ℕ) → p < n → Best joined chosen (toward n (cell mean absent (now (edges .entry))) (at mean absent (now (last .entry)))) n k p n (at mean absent (now (out .exit)) p)) ⌝ }
     ensures beyond { λ _. ⌜ Beyond-row absent n (now (out .entry)) (now (out .exit)) ⌝ }
 {
-    get_column(edges, target, out, n);
+    copy_row(last, out, n);
     for j in 1..k {
         lengthen(edges, out, n);
     }

@@ -31,7 +31,7 @@ pub double-requires : need.double-requires
 double-requires g c κs =
     let m = g .W·Weight in
     let small : (p q : ℕ) → p < c .args .n → q < c .args .n → m .size (cell (m .mean) (m .absent) (c .loop-d .out) p q) ≤ 2 ^ c .loop-d .d * (m .limit / 2 ^ c .args .doublings)
-        = λ p q h j. best-size (m .size) (g .W·Weight·met .«join_size») (g .W·Weight·met .«choose_size») (c .pre .small) h j (c .loop-d .inv .0 p q h j) in
+        = λ p q h j. best-size (m .size) (g .W·Weight·met .«join_size») (g .W·Weight·met .«choose_size») (c .pre .small) (λ k i. c .pre .small k q i j) h (c .loop-d .inv .0 p q h j) in
     (search needs, (search needs, (c .pre .fits,
      λ p r q h i j. edges-fit _ _ (2 ^ c .loop-d .d) (2 ^ c .loop-d .d) (m .limit) (2 ^ c .args .doublings) (small p r h i) (small r q i j)
      (subst (λ x. x ≤ 2 ^ c .args .doublings) (pow-twice (c .loop-d .d)) (pow-mono (omega arith))))))
