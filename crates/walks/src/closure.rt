@@ -1,6 +1,6 @@
 //! Best weights over walks between every two points, by doubling the walks' length.
 ghost use mathlib.Core.Path.{_≡_};
-ghost use Prim.Native.Nat.{ℕ, _+_, _/_, _^_, _<_, _≤_};
+ghost use Prim.Native.Nat.{ℕ, _+_, _*_, _/_, _^_, _<_, _≤_};
 ghost use Rattle.walks.specs.Tables.{at, cell, Small, Beyond};
 ghost use Rattle.walks.specs.Walks.{Best, through};
 use crate::table::copy;
@@ -60,6 +60,7 @@ pub fn best_walks<W: Weight, const N: usize>(
     requires fits { ⌜ n ≤ N ⌝ }
     requires small { ⌜ Small size (cell mean absent (now edges)) n (limit / 2 ^ doublings) ⌝ }
     ensures best { λ _. ⌜ ((p q : ℕ) → p < n → q < n → Best joined chosen (cell mean absent (now (edges .entry))) n (2 ^ doublings) p q (cell mean absent (now (out .exit)) p q)) ⌝ }
+    ensures sized { λ _. ⌜ ((m : ℕ) → Small size (cell mean absent (now (edges .entry))) n m → Small size (cell mean absent (now (out .exit))) n (2 ^ doublings * m)) ⌝ }
     ensures beyond { λ _. ⌜ Beyond absent n (now (out .entry)) (now (out .exit)) ⌝ ∗ ⌜ Beyond absent n (now (scratch .entry)) (now (scratch .exit)) ⌝ }
 {
     copy(edges, out, n);

@@ -1,6 +1,6 @@
 //! Best weights over walks to one target, edge by edge.
 ghost use mathlib.Core.Path.{_≡_};
-ghost use Prim.Native.Nat.{ℕ, _+_, _/_, _<_, _≤_};
+ghost use Prim.Native.Nat.{ℕ, _+_, _*_, _/_, _<_, _≤_};
 ghost use lib.ListN.{getD};
 ghost use Rattle.walks.specs.Tables.{at, cell, Small, Small-row, Beyond-row};
 ghost use Rattle.walks.specs.Walks.{Best, toward, through};
@@ -58,6 +58,7 @@ pub fn best_walks_to<W: Weight, const N: usize>(
     requires fits { ⌜ n ≤ N ⌝ ∗ ⌜ 0 < k ⌝ }
     requires small { ⌜ Small size (cell mean absent (now edges)) n (limit / k) ⌝ ∗ ⌜ Small-row size (at mean absent (now last)) n (limit / k) ⌝ }
     ensures best { λ _. ⌜ ((p : ℕ) → p < n → Best joined chosen (toward n (cell mean absent (now (edges .entry))) (at mean absent (now (last .entry)))) n k p n (at mean absent (now (out .exit)) p)) ⌝ }
+    ensures sized { λ _. ⌜ ((m : ℕ) → Small size (cell mean absent (now (edges .entry))) n m → Small-row size (at mean absent (now (last .entry))) n m → Small-row size (at mean absent (now (out .exit))) n (k * m)) ⌝ }
     ensures beyond { λ _. ⌜ Beyond-row absent n (now (out .entry)) (now (out .exit)) ⌝ }
 {
     copy_row(last, out, n);

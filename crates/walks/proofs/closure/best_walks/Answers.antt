@@ -1,9 +1,11 @@
 use mathlib.Core.Path.{_≡_, refl, subst, ap, _∙_}
+use mathlib.Core.List.{List}
 use Prim.Native.Nat.{ℕ, _+_, _*_, _/_, _^_, _≤_, _<_}
 use native.Mathlib.Omega.{arith}
 use borrow.Author.Needs.{needs}
 use lib.Pow.{pow-pos, pow-mono, pow-add}
-use Rattle.walks.specs.Tables.{cell}
+use Rattle.walks.specs.Tables.{cell, Small}
+use Rattle.walks.specs.Walks.{Best}
 use Rattle.walks.proofs.Walking.{Laws, best-same, best-one, best-chain, best-size, edges-fit}
 use Rattle.walks.proofs.closure.best_walks.Given as given
 use Rattle.walks.proofs.closure.best_walks.Needs as need
@@ -27,13 +29,19 @@ loop-d-holds g c =
      λ p q h. refl,
      λ p q h. refl)
 
+sized : (g : given.Over) (rows out : List (List (g .W .Denot))) (n k : ℕ)
+    → ((p q : ℕ) → p < n → q < n → Best (g .W·Weight .joined) (g .W·Weight .chosen) (cell (g .W·Weight .mean) (g .W·Weight .absent) rows) n k p q (cell (g .W·Weight .mean) (g .W·Weight .absent) out p q))
+    → (m : ℕ) → Small (g .W·Weight .size) (cell (g .W·Weight .mean) (g .W·Weight .absent) rows) n m
+    → Small (g .W·Weight .size) (cell (g .W·Weight .mean) (g .W·Weight .absent) out) n (k * m)
+sized g rows out n k best m small p q i j =
+    best-size (g .W·Weight .size) (g .W·Weight·met .«join_size») (g .W·Weight·met .«choose_size») small (λ r h. small r q h j) i (best p q i j)
+
 pub double-requires : need.double-requires
 double-requires g c κs =
-    let m = g .W·Weight in
-    let small : (p q : ℕ) → p < c .args .n → q < c .args .n → m .size (cell (m .mean) (m .absent) (c .loop-d .out) p q) ≤ 2 ^ c .loop-d .d * (m .limit / 2 ^ c .args .doublings)
-        = λ p q h j. best-size (m .size) (g .W·Weight·met .«join_size») (g .W·Weight·met .«choose_size») (c .pre .small) (λ k i. c .pre .small k q i j) h (c .loop-d .inv .0 p q h j) in
+    let d = 2 ^ c .loop-d .d in
+    let small = sized g _ _ _ d (c .loop-d .inv .0) _ (c .pre .small) in
     (search needs, (search needs, (c .pre .fits,
-     λ p r q h i j. edges-fit _ _ (2 ^ c .loop-d .d) (2 ^ c .loop-d .d) (m .limit) (2 ^ c .args .doublings) (small p r h i) (small r q i j)
+     λ p r q h i j. edges-fit _ _ d d (g .W·Weight .limit) (2 ^ c .args .doublings) (small p r h i) (small r q i j)
      (subst (λ x. x ≤ 2 ^ c .args .doublings) (pow-twice (c .loop-d .d)) (pow-mono (omega arith))))))
 
 pub loop-d-again : need.loop-d-again
@@ -51,5 +59,6 @@ returns g c =
     let done : c .args .doublings ≡ c .loop-d .d = omega arith in
     record {
       best = λ p q h j. best-same (laws-of g) _ _ (ap (λ d. 2 ^ d) done) refl (c .loop-d .inv .0 p q h j);
+      sized = rw done (sized g _ _ _ (2 ^ c .loop-d .d) (c .loop-d .inv .0));
       beyond = (λ p q h. c .loop-d .inv .1 p q h ∙ c .copy .ensures .beyond p q h, c .loop-d .inv .2);
     }
