@@ -92,7 +92,7 @@ module _ {V : Type 0} {join choose : V → V → V} (the : Part join choose) whe
   part-holds {between} R edge-holds onward-holds = best-holds join choose between (λ p v. (x : ℤ) → the .part v ≡ Some x → R p x)
       (λ p i x. edge-holds p x i)
       (λ p r b i h f z e.
-       sum-lifts (R p) (λ x y. onward-holds p r x y i h) (the .before (between p r)) (the .part b) (λ x d. d) f z (sym (the .adds (between p r) b) ∙ e))
+      sum-lifts (R p) (λ x y. onward-holds p r x y i h) (the .before (between p r)) (the .part b) (λ x d. d) f z (sym (the .adds (between p r) b) ∙ e))
       (λ p a b i f g z e. lesser-lifts (R p) (the .part a) (the .part b) f g z (sym (the .picks a b) ∙ e))
 
   -- some walk of 1 to k edges from p to q weighs x

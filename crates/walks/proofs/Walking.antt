@@ -140,9 +140,9 @@ module _ {V : Type 0} {join choose : V → V → V} (laws : Laws join choose) (b
   unfolding edges weight
   best-one p q = record { wins = one-wins; made = walk (edge p q) (omega arith) }
     where
-    one-wins : (w : Walk n p q) → edges w ≤ 1 → Wins (between p q) (weighs w)
-    one-wins (edge p q) h = laws .choose-idem (between p q)
-    one-wins (onward p r q l w) h = absurd (omega (arith, one-edge w))
+      one-wins : (w : Walk n p q) → edges w ≤ 1 → Wins (between p q) (weighs w)
+      one-wins (edge p q) h = laws .choose-idem (between p q)
+      one-wins (onward p r q l w) h = absurd (omega (arith, one-edge w))
 
   through-first : (b : V) (a c : ℕ → V) (m : ℕ) → Wins (through join choose b a c m) b
   through-first b a c zero = laws .choose-idem b
@@ -161,20 +161,22 @@ module _ {V : Type 0} {join choose : V → V → V} (laws : Laws join choose) (b
       → IsBest (j + k) p q (through join choose b a c n)
   best-chain {i} {j} {k} {p} {q} {b} {a} {c} f g h s t u = record { wins = wins-all; made = made-all n (omega arith) }
     where
-    made-all : (m : ℕ) → m ≤ n → Chosen (j + k) p q (through join choose b a c m)
-    made-all zero l = choice-more h (s .made)
-    made-all (suc m) l = either (made-all m (omega arith)) (join-choice l (t m l .made) (u m l .made))
-    by-parts : (w : Walk n p q) → Parted w j → edges w ≤ j + k → Wins (through join choose b a c n) (weighs w)
-    by-parts w x l =
-        rw (x .same)
-        (wins-trans _ (join (a (x .mid)) (c (x .mid))) _
-         (through-point b a c n (x .mid) (x .below))
-         (wins-join _ _ _ _ (t (x .mid) (x .below) .wins (x .front) (omega arith)) (u (x .mid) (x .below) .wins (x .back) (omega arith))))
-    wins-all : (w : Walk n p q) → edges w ≤ j + k → Wins (through join choose b a c n) (weighs w)
-    wins-all w l = ⊎-elim
-        (λ m. by-parts w (parted w j f (omega arith)) l)
-        (λ m. wins-trans _ b _ (through-first b a c n) (s .wins w m))
-        (cases-lt i (edges w))
+      made-all : (m : ℕ) → m ≤ n → Chosen (j + k) p q (through join choose b a c m)
+      made-all zero l = choice-more h (s .made)
+      made-all (suc m) l = either (made-all m (omega arith)) (join-choice l (t m l .made) (u m l .made))
+
+      by-parts : (w : Walk n p q) → Parted w j → edges w ≤ j + k → Wins (through join choose b a c n) (weighs w)
+      by-parts w x l =
+          rw (x .same)
+          (wins-trans _ (join (a (x .mid)) (c (x .mid))) _
+          (through-point b a c n (x .mid) (x .below))
+          (wins-join _ _ _ _ (t (x .mid) (x .below) .wins (x .front) (omega arith)) (u (x .mid) (x .below) .wins (x .back) (omega arith))))
+
+      wins-all : (w : Walk n p q) → edges w ≤ j + k → Wins (through join choose b a c n) (weighs w)
+      wins-all w l = ⊎-elim
+          (λ m. by-parts w (parted w j f (omega arith)) l)
+          (λ m. wins-trans _ b _ (through-first b a c n) (s .wins w m))
+          (cases-lt i (edges w))
 
 -- a bound on weights that grows with the walks' length
 module _ {V : Type 0} {join choose : V → V → V} (size : V → ℕ)

@@ -18,14 +18,20 @@ impl Minutes {
     pub fn of(minutes: i16) -> Minutes
         ensures { λ r. ⌜ of-minutes r ≡ Some minutes ⌝ }
     {
-        Minutes { raw: minutes as i32 }
+        Minutes {
+            raw: minutes as i32,
+        }
     }
 
     /// The minutes, or nothing where the weight is absent.
     pub fn get(self) -> Option<i32>
         ensures { λ r. ⌜ r ≡ of-minutes self ⌝ }
     {
-        if self.raw == Minutes::ABSENT { None } else { Some(self.raw) }
+        if self.raw == Minutes::ABSENT {
+            None
+        } else {
+            Some(self.raw)
+        }
     }
 }
 
@@ -45,7 +51,9 @@ pub impl Weight for Minutes as MinutesWeight {
     ghost limit = { 2 ^ 30 };
 
     fn absent() -> Minutes {
-        Minutes { raw: Minutes::ABSENT }
+        Minutes {
+            raw: Minutes::ABSENT,
+        }
     }
 
     fn is_absent(self) -> bool {
@@ -56,7 +64,9 @@ pub impl Weight for Minutes as MinutesWeight {
         if self.is_absent() || other.is_absent() {
             Minutes::absent()
         } else {
-            Minutes { raw: self.raw + other.raw }
+            Minutes {
+                raw: self.raw + other.raw,
+            }
         }
     }
 

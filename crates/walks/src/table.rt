@@ -23,7 +23,12 @@ pub fn put_weight<W: Weight, const N: usize>(table: &mut [[W; N]; N], p: usize, 
 }
 
 /// Writes the first n weights of `row` into row p of `into`.
-pub(crate) fn put_row<W: Weight, const N: usize>(into: &mut [[W; N]; N], n: usize, p: usize, row: &[W; N])
+pub(crate) fn put_row<W: Weight, const N: usize>(
+    into: &mut [[W; N]; N],
+    n: usize,
+    p: usize,
+    row: &[W; N],
+)
     requires { ⌜ n ≤ N ⌝ ∗ ⌜ p < N ⌝ }
     ensures here { λ _. ⌜ ((q : ℕ) → q < n → entry absent (now (into .exit)) p q ≡ getD (now (row .entry)) q absent) ⌝ }
     ensures others { λ _. ⌜ ((k q : ℕ) → (k ≡ p → q < n → ⊥) → entry absent (now (into .exit)) k q ≡ entry absent (now (into .entry)) k q) ⌝ }

@@ -19,7 +19,13 @@ fn copy_row<W: Weight, const N: usize>(row: &[W; N], into: &mut [W; N], n: usize
 }
 
 /// Chooses each of the first n weights of `into` with the way by an edge to r and then by `last`.
-fn prepend<W: Weight, const N: usize>(edges: &[[W; N]; N], r: usize, last: W, into: &mut [W; N], n: usize)
+fn prepend<W: Weight, const N: usize>(
+    edges: &[[W; N]; N],
+    r: usize,
+    last: W,
+    into: &mut [W; N],
+    n: usize,
+)
     requires fits { ⌜ n ≤ N ⌝ ∗ ⌜ r < n ⌝ }
     requires small { ⌜ ((p : ℕ) → p < n → size (cell mean absent (now edges) p r) + size (mean last) ≤ limit) ⌝ }
     ensures here { λ _. ⌜ ((p : ℕ) → p < n → at mean absent (now (into .exit)) p ≡ chosen (at mean absent (now (into .entry)) p) (joined (cell mean absent (now (edges .entry)) p r) (mean last))) ⌝ }

@@ -19,7 +19,11 @@ use walks::table::weight_at;
 use walks::target::best_walks_to;
 
 const POINTS: usize = 32;
+
 const DOUBLINGS: usize = 5;
+
+const EDGES: usize = 32;
+
 const ROUNDS: usize = 1000;
 
 /// Fills a table with samples, none absent.
@@ -28,7 +32,9 @@ fn fill<W: Sample>(table: &mut [[W; POINTS]; POINTS], seed: usize)
 {
     for p in 0..POINTS {
         for q in 0..POINTS {
-            let number = seed.wrapping_mul(1024).wrapping_add(p * 32 + q).wrapping_mul(2_654_435_761);
+            let number = seed.wrapping_mul(1024)
+                .wrapping_add(p * 32 + q)
+                .wrapping_mul(2_654_435_761);
             put_weight(table, p, q, W::draw(number));
         }
     }
@@ -62,22 +68,51 @@ fn close_tables<W: Sample>(
     sum
 }
 
+/// Finds the best weights to one target in one table after another, and adds up the scores.
+fn reach_targets<W: Sample>(edges: &mut [[W; POINTS]; POINTS], out: &mut [W; POINTS]) -> i64
+    requires { ⌜ 1440 ≤ W·Weight .limit / 32 ⌝ }
+{
+    let mut sum: i64 = 0;
+    for seed in 0..ROUNDS {
+        fill(edges, seed);
+        let last = edges[0];
+        best_walks_to(edges, &last, out, POINTS, EDGES);
+        for p in 0..POINTS {
+            sum = sum.wrapping_add(weight_at(out, p).score());
+        }
+    }
+    sum
+}
+
+/// Writes the count and the sum, and for a reader the time.
+fn report(rt: &LibcRuntime, name: &str, joins: usize, sum: i64, start: Instant) -> io::Result<()> {
+    let time = start.elapsed(rt)?;
+    println!(
+        rt,
+        "{name}: {ROUNDS} tables of {POINTS} points, {joins} joins each, sum {sum}"
+    )?;
+    eprintln!(rt, "{name}: {} ms", time.as_millis())
+}
+
 fn main(rt: LibcRuntime) -> io::Result<()> {
-    let joins = POINTS * POINTS * POINTS * DOUBLINGS;
+    let all = POINTS * POINTS * POINTS * DOUBLINGS;
+    let one = POINTS * POINTS * (EDGES - 1);
     let mut edges = [[Minutes::absent(); POINTS]; POINTS];
     let mut out = edges;
     let mut scratch = edges;
     let start = Instant::now(&rt)?;
     let sum = close_tables(&mut edges, &mut out, &mut scratch);
-    let time = start.elapsed(&rt)?;
-    println!(rt, "minutes: {ROUNDS} tables of {POINTS} points, {joins} joins each, sum {sum}")?;
-    eprintln!(rt, "minutes: {} us a table", time.as_micros() / 1000)?;
+    report(&rt, "minutes", all, sum, start)?;
+    let start = Instant::now(&rt)?;
+    let sum = reach_targets(&mut edges, &mut out[0]);
+    report(&rt, "minutes to one target", one, sum, start)?;
     let mut edges = [[PlainWait::absent(); POINTS]; POINTS];
     let mut out = edges;
     let mut scratch = edges;
     let start = Instant::now(&rt)?;
     let sum = close_tables(&mut edges, &mut out, &mut scratch);
-    let time = start.elapsed(&rt)?;
-    println!(rt, "pairs: {ROUNDS} tables of {POINTS} points, {joins} joins each, sum {sum}")?;
-    eprintln!(rt, "pairs: {} us a table", time.as_micros() / 1000)
+    report(&rt, "pairs", all, sum, start)?;
+    let start = Instant::now(&rt)?;
+    let sum = reach_targets(&mut edges, &mut out[0]);
+    report(&rt, "pairs to one target", one, sum, start)
 }

@@ -16,7 +16,6 @@ pub trait Sample: Weight {
     fn score(self) -> i64;
 }
 
-
 pub impl Sample for Minutes as MinutesSample {
     fn draw(number: usize) -> Minutes {
         Minutes::of((number % 2881) as i16 - 1440)
@@ -32,7 +31,10 @@ pub impl Sample for Minutes as MinutesSample {
 
 pub impl Sample for PlainWait as PlainWaitSample {
     fn draw(number: usize) -> PlainWait {
-        PlainWait { plain: Minutes::draw(number), wait: Minutes::draw(number / 2881) }
+        PlainWait {
+            plain: Minutes::draw(number),
+            wait: Minutes::draw(number / 2881),
+        }
     }
 
     fn score(self) -> i64 {

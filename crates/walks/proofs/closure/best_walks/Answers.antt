@@ -24,10 +24,11 @@ pow-twice : (d : ℕ) → 2 ^ (d + 1) ≡ 2 ^ d + 2 ^ d
 pow-twice d = omega (arith, pow-add 2 d 1)
 
 pub loop-d-holds : need.loop-d-holds
-loop-d-holds g c =
-    (λ p q h j. best-same (laws-of g) _ _ refl (ap (g .W·Weight .mean) (c .copy .ensures .here p q h j)) (best-one (laws-of g) _ _ p q),
-     λ p q h. refl,
-     λ p q h. refl)
+loop-d-holds g c = (
+  λ p q h j. best-same (laws-of g) _ _ refl (ap (g .W·Weight .mean) (c .copy .ensures .here p q h j)) (best-one (laws-of g) _ _ p q),
+  λ p q h. refl,
+  λ p q h. refl,
+)
 
 sized : (g : given.Over) (rows out : List (List (g .W .Denot))) (n k : ℕ)
     → ((p q : ℕ) → p < n → q < n → Best (g .W·Weight .joined) (g .W·Weight .chosen) (cell (g .W·Weight .mean) (g .W·Weight .absent) rows) n k p q (cell (g .W·Weight .mean) (g .W·Weight .absent) out p q))
@@ -39,20 +40,28 @@ sized g rows out n k best m small p q i j =
 pub double-requires : need.double-requires
 double-requires g c κs =
     let d = 2 ^ c .loop-d .d in
-    let small = sized g _ _ _ d (c .loop-d .inv .0) _ (c .pre .small) in
-    (search needs, (search needs, (c .pre .fits,
-     λ p r q h i j. edges-fit _ _ d d (g .W·Weight .limit) (2 ^ c .args .doublings) (small p r h i) (small r q i j)
-     (subst (λ x. x ≤ 2 ^ c .args .doublings) (pow-twice (c .loop-d .d)) (pow-mono (omega arith))))))
+    let small = sized g _ _ _ d (c .loop-d .inv .0) _ (c .pre .small) in (
+      search needs,
+      (
+        search needs,
+        (
+          c .pre .fits,
+          λ p r q h i j. edges-fit _ _ d d (g .W·Weight .limit) (2 ^ c .args .doublings) (small p r h i) (small r q i j)
+              (subst (λ x. x ≤ 2 ^ c .args .doublings) (pow-twice (c .loop-d .d)) (pow-mono (omega arith))),
+        ),
+      ),
+    )
 
 pub loop-d-again : need.loop-d-again
 loop-d-again g c =
     let m = g .W·Weight in
-    let d = c .loop-d .d in
-    (λ p q h j.
-     best-same (laws-of g) _ _ (pow-twice d) (ap (m .mean) (c .copy-in-loop-d .ensures .here p q h j) ∙ c .double .ensures .here p q h j)
-     (best-chain (laws-of g) _ _ {i = 2 ^ d} {j = 2 ^ d} {k = 2 ^ d} (pow-pos d) (omega arith) (omega arith) (c .loop-d .inv .0 p q h j) (λ r i. c .loop-d .inv .0 p r h i) (λ r i. c .loop-d .inv .0 r q i j)),
-     λ p q h. c .copy-in-loop-d .ensures .beyond p q h ∙ c .loop-d .inv .1 p q h,
-     λ p q h. c .double .ensures .beyond p q h ∙ c .loop-d .inv .2 p q h)
+    let d = c .loop-d .d in (
+      λ p q h j.
+          best-same (laws-of g) _ _ (pow-twice d) (ap (m .mean) (c .copy-in-loop-d .ensures .here p q h j) ∙ c .double .ensures .here p q h j)
+          (best-chain (laws-of g) _ _ {i = 2 ^ d} {j = 2 ^ d} {k = 2 ^ d} (pow-pos d) (omega arith) (omega arith) (c .loop-d .inv .0 p q h j) (λ r i. c .loop-d .inv .0 p r h i) (λ r i. c .loop-d .inv .0 r q i j)),
+      λ p q h. c .copy-in-loop-d .ensures .beyond p q h ∙ c .loop-d .inv .1 p q h,
+      λ p q h. c .double .ensures .beyond p q h ∙ c .loop-d .inv .2 p q h,
+    )
 
 pub returns : need.returns
 returns g c =

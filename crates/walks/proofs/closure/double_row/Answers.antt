@@ -11,9 +11,10 @@ loop-r-again g c q h =
     let read = ap (m .mean) (c .weight-at-first .ensures) in
     rw add-one
     (elim (c .if-not-is-absent .came) [
-      then-not-is-absent w ↦
-        one-more (m .joined) (m .chosen) _ _ _ _ _ _ _ (ap (λ x. m .mean (getD x q (m .absent))) (w .into-is) ∙ w .extend .ensures q h) (c .loop-r .inv q h) read refl
+      | then-not-is-absent w ↦
+          one-more (m .joined) (m .chosen) _ _ _ _ _ _ _ (ap (λ x. m .mean (getD x q (m .absent))) (w .into-is) ∙ w .extend .ensures q h) (c .loop-r .inv q h) read refl
       | else-not-is-absent w ↦
-        none-before (m .joined) (m .chosen) (m .mean (m .absent)) (g .W·Weight·met .«choose_absent») _ _ _ _
+          none-before (m .joined) (m .chosen) (m .mean (m .absent)) (g .W·Weight·met .«choose_absent») _ _ _ _
           (ap (λ x. m .mean (getD x q (m .absent))) (w .into-is) ∙ c .loop-r .inv q h)
-          (g .W·Weight·met .«absent_join») (sym read ∙ c .is-absent .ensures .0 (w .if-not-is-absent .left)) ])
+          (g .W·Weight·met .«absent_join») (sym read ∙ c .is-absent .ensures .0 (w .if-not-is-absent .left))
+    ])
