@@ -10,11 +10,11 @@ entry d rows p q = getD (getD rows p []) q d
 
 -- what an entry of a row means
 abbrev pub at : {W V : Type 0} → (W → V) → W → List W → ℕ → V
-at mean d row q = mean (getD row q d)
+at meaning d row q = meaning (getD row q d)
 
 -- what an entry of a table means
 abbrev pub cell : {W V : Type 0} → (W → V) → W → List (List W) → ℕ → ℕ → V
-cell mean d rows p q = mean (entry d rows p q)
+cell meaning d rows p q = meaning (entry d rows p q)
 
 -- no entry in the first n places of the first n rows is larger than m
 abbrev pub Small : {V : Type 0} → (V → ℕ) → (ℕ → ℕ → V) → ℕ → ℕ → Type 0

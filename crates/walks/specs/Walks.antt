@@ -39,3 +39,7 @@ toward n between last p q = cond (ltb q n) (between p q) (last p)
 abbrev pub through : {V : Type 0} → (V → V → V) → (V → V → V) → V → (ℕ → V) → (ℕ → V) → ℕ → V
 through join choose b a c zero = b
 through join choose b a c (suc r) = choose (through join choose b a c r) (join (a r) (c r))
+
+-- a table, chosen with every way through one point below n
+abbrev pub twice : {V : Type 0} → (V → V → V) → (V → V → V) → (ℕ → ℕ → V) → ℕ → ℕ → ℕ → V
+twice join choose best n p q = through join choose (best p q) (best p) (λ r. best r q) n

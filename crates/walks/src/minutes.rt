@@ -38,7 +38,7 @@ impl Minutes {
 pub impl Weight for Minutes as MinutesWeight {
     ghost Model = { Whole };
 
-    ghost mean = { of-minutes };
+    ghost meaning = { of-minutes };
 
     ghost absent = { absent-minutes };
 

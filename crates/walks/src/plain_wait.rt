@@ -15,7 +15,7 @@ pub struct PlainWait {
 pub impl Weight for PlainWait as PlainWaitWeight {
     ghost Model = { Pair };
 
-    ghost mean = { of-pair };
+    ghost meaning = { of-pair };
 
     ghost absent = { absent-pair };
 

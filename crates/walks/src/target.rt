@@ -27,8 +27,8 @@ fn prepend<W: Weight, const N: usize>(
     n: usize,
 )
     requires fits { ⌜ n ≤ N ⌝ ∗ ⌜ r < n ⌝ }
-    requires small { ⌜ ((p : ℕ) → p < n → size (cell mean absent (now edges) p r) + size (mean last) ≤ limit) ⌝ }
-    ensures here { λ _. ⌜ ((p : ℕ) → p < n → at mean absent (now (into .exit)) p ≡ chosen (at mean absent (now (into .entry)) p) (joined (cell mean absent (now (edges .entry)) p r) (mean last))) ⌝ }
+    requires small { ⌜ ((p : ℕ) → p < n → size (cell meaning absent (now edges) p r) + size (meaning last) ≤ limit) ⌝ }
+    ensures here { λ _. ⌜ ((p : ℕ) → p < n → at meaning absent (now (into .exit)) p ≡ chosen (at meaning absent (now (into .entry)) p) (joined (cell meaning absent (now (edges .entry)) p r) (meaning last))) ⌝ }
     ensures beyond { λ _. ⌜ Beyond-row absent n (now (into .entry)) (now (into .exit)) ⌝ }
 {
     for p in 0..n {
@@ -39,8 +39,8 @@ fn prepend<W: Weight, const N: usize>(
 /// From the best weights over walks of some length to those over walks of one edge more.
 fn lengthen<W: Weight, const N: usize>(edges: &[[W; N]; N], best: &mut [W; N], n: usize)
     requires fits { ⌜ n ≤ N ⌝ }
-    requires small { ⌜ ((p r : ℕ) → p < n → r < n → size (cell mean absent (now edges) p r) + size (at mean absent (now best) r) ≤ limit) ⌝ }
-    ensures here { λ _. ⌜ ((p : ℕ) → p < n → at mean absent (now (best .exit)) p ≡ through joined chosen (at mean absent (now (best .entry)) p) (cell mean absent (now (edges .entry)) p) (at mean absent (now (best .entry))) n) ⌝ }
+    requires small { ⌜ ((p r : ℕ) → p < n → r < n → size (cell meaning absent (now edges) p r) + size (at meaning absent (now best) r) ≤ limit) ⌝ }
+    ensures here { λ _. ⌜ ((p : ℕ) → p < n → at meaning absent (now (best .exit)) p ≡ through joined chosen (at meaning absent (now (best .entry)) p) (cell meaning absent (now (edges .entry)) p) (at meaning absent (now (best .entry))) n) ⌝ }
     ensures beyond { λ _. ⌜ Beyond-row absent n (now (best .entry)) (now (best .exit)) ⌝ }
 {
     let shorter = *best;
@@ -62,9 +62,9 @@ pub fn best_walks_to<W: Weight, const N: usize>(
     k: usize,
 )
     requires fits { ⌜ n ≤ N ⌝ ∗ ⌜ 0 < k ⌝ }
-    requires small { ⌜ Small size (cell mean absent (now edges)) n (limit / k) ⌝ ∗ ⌜ Small-row size (at mean absent (now last)) n (limit / k) ⌝ }
-    ensures best { λ _. ⌜ ((p : ℕ) → p < n → Best joined chosen (toward n (cell mean absent (now (edges .entry))) (at mean absent (now (last .entry)))) n k p n (at mean absent (now (out .exit)) p)) ⌝ }
-    ensures sized { λ _. ⌜ ((m : ℕ) → Small size (cell mean absent (now (edges .entry))) n m → Small-row size (at mean absent (now (last .entry))) n m → Small-row size (at mean absent (now (out .exit))) n (k * m)) ⌝ }
+    requires small { ⌜ Small size (cell meaning absent (now edges)) n (limit / k) ⌝ ∗ ⌜ Small-row size (at meaning absent (now last)) n (limit / k) ⌝ }
+    ensures best { λ _. ⌜ ((p : ℕ) → p < n → Best joined chosen (toward n (cell meaning absent (now (edges .entry))) (at meaning absent (now (last .entry)))) n k p n (at meaning absent (now (out .exit)) p)) ⌝ }
+    ensures sized { λ _. ⌜ ((m : ℕ) → Small size (cell meaning absent (now (edges .entry))) n m → Small-row size (at meaning absent (now (last .entry))) n m → Small-row size (at meaning absent (now (out .exit))) n (k * m)) ⌝ }
     ensures beyond { λ _. ⌜ Beyond-row absent n (now (out .entry)) (now (out .exit)) ⌝ }
 {
     copy_row(last, out, n);

@@ -28,7 +28,7 @@ const ROUNDS: usize = 1000;
 
 /// Fills a table with samples, none absent.
 fn fill<W: Sample>(table: &mut [[W; POINTS]; POINTS], seed: usize)
-    ensures { λ _. ⌜ Small (W·Weight .size) (cell (W·Weight .mean) (W·Weight .absent) (now (table .exit))) 32 1440 ⌝ }
+    ensures { λ _. ⌜ Small (W·Weight .size) (cell (W·Weight .meaning) (W·Weight .absent) (now (table .exit))) 32 1440 ⌝ }
 {
     for p in 0..POINTS {
         for q in 0..POINTS {

@@ -10,7 +10,7 @@ use walks::weight::Weight;
 pub trait Sample: Weight {
     /// A weight of at most 1440 in each part.
     fn draw(number: usize) -> Self
-        ensures { λ r. ⌜ Self·Weight .size (Self·Weight .mean r) ≤ 1440 ⌝ };
+        ensures { λ r. ⌜ Self·Weight .size (Self·Weight .meaning r) ≤ 1440 ⌝ };
 
     /// A number that tells the weight.
     fn score(self) -> i64;

@@ -25,15 +25,15 @@ pow-twice d = omega (arith, pow-add 2 d 1)
 
 pub loop-d-holds : need.loop-d-holds
 loop-d-holds g c = (
-  λ p q h j. best-same (laws-of g) _ _ refl (ap (g .W·Weight .mean) (c .copy .ensures .here p q h j)) (best-one (laws-of g) _ _ p q),
+  λ p q h j. best-same (laws-of g) _ _ refl (ap (g .W·Weight .meaning) (c .copy .ensures .here p q h j)) (best-one (laws-of g) _ _ p q),
   λ p q h. refl,
   λ p q h. refl,
 )
 
 sized : (g : given.Over) (rows out : List (List (g .W .Denot))) (n k : ℕ)
-    → ((p q : ℕ) → p < n → q < n → Best (g .W·Weight .joined) (g .W·Weight .chosen) (cell (g .W·Weight .mean) (g .W·Weight .absent) rows) n k p q (cell (g .W·Weight .mean) (g .W·Weight .absent) out p q))
-    → (m : ℕ) → Small (g .W·Weight .size) (cell (g .W·Weight .mean) (g .W·Weight .absent) rows) n m
-    → Small (g .W·Weight .size) (cell (g .W·Weight .mean) (g .W·Weight .absent) out) n (k * m)
+    → ((p q : ℕ) → p < n → q < n → Best (g .W·Weight .joined) (g .W·Weight .chosen) (cell (g .W·Weight .meaning) (g .W·Weight .absent) rows) n k p q (cell (g .W·Weight .meaning) (g .W·Weight .absent) out p q))
+    → (m : ℕ) → Small (g .W·Weight .size) (cell (g .W·Weight .meaning) (g .W·Weight .absent) rows) n m
+    → Small (g .W·Weight .size) (cell (g .W·Weight .meaning) (g .W·Weight .absent) out) n (k * m)
 sized g rows out n k best m small p q i j =
     best-size (g .W·Weight .size) (g .W·Weight·met .«join_size») (g .W·Weight·met .«choose_size») small (λ r h. small r q h j) i (best p q i j)
 
@@ -57,7 +57,7 @@ loop-d-again g c =
     let m = g .W·Weight in
     let d = c .loop-d .d in (
       λ p q h j.
-          best-same (laws-of g) _ _ (pow-twice d) (ap (m .mean) (c .copy-in-loop-d .ensures .here p q h j) ∙ c .double .ensures .here p q h j)
+          best-same (laws-of g) _ _ (pow-twice d) (ap (m .meaning) (c .copy-in-loop-d .ensures .here p q h j) ∙ c .double .ensures .here p q h j)
           (best-chain (laws-of g) _ _ {i = 2 ^ d} {j = 2 ^ d} {k = 2 ^ d} (pow-pos d) (omega arith) (omega arith) (c .loop-d .inv .0 p q h j) (λ r i. c .loop-d .inv .0 p r h i) (λ r i. c .loop-d .inv .0 r q i j)),
       λ p q h. c .copy-in-loop-d .ensures .beyond p q h ∙ c .loop-d .inv .1 p q h,
       λ p q h. c .double .ensures .beyond p q h ∙ c .loop-d .inv .2 p q h,

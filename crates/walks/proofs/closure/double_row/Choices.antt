@@ -8,5 +8,5 @@ use Rattle.walks.proofs.closure.double_row.Given as given
 abbrev pub Inv-loop-r : given.InvT-loop-r
 Inv-loop-r g l =
     let m = g .W·Weight in
-    let best = cell (m .mean) (m .absent) (l .best) in
-    (q : ℕ) → q < l .n → at (m .mean) (m .absent) (l .into) q ≡ through (m .joined) (m .chosen) (best (l .p) q) (best (l .p)) (λ r. best r q) (l .r)
+    let best = cell (m .meaning) (m .absent) (l .best) in
+    (q : ℕ) → q < l .n → at (m .meaning) (m .absent) (l .row) q ≡ through (m .joined) (m .chosen) (at (m .meaning) (m .absent) (l .entry .row) q) (best (l .p)) (λ r. best r q) (l .r)

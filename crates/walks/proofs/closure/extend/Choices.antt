@@ -7,5 +7,5 @@ use Rattle.walks.proofs.closure.extend.Given as given
 abbrev pub Inv-loop-q : given.InvT-loop-q
 Inv-loop-q g l =
     let m = g .W·Weight in
-    ((k : ℕ) → k < l .q → at (m .mean) (m .absent) (l .into) k ≡ m .chosen (at (m .mean) (m .absent) (l .entry .into) k) (m .joined (m .mean (l .first)) (at (m .mean) (m .absent) (l .row) k)))
+    ((k : ℕ) → k < l .q → at (m .meaning) (m .absent) (l .into) k ≡ m .chosen (at (m .meaning) (m .absent) (l .entry .into) k) (m .joined (m .meaning (l .first)) (at (m .meaning) (m .absent) (l .row) k)))
     × Beyond-row (m .absent) (l .q) (l .entry .into) (l .into)
