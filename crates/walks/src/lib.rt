@@ -4,4 +4,6 @@ pub mod minutes;
 pub mod plain_wait;
 pub mod table;
 pub mod target;
+#[cfg(test)]
+mod tests;
 pub mod weight;
