@@ -1,0 +1,3 @@
+pub mod Tracks
+pub mod Kitchens
+pub mod Rows

@@ -1,0 +1,6 @@
+//! Kitchens: what starts spans and decides when they end.
+pub mod interface;
+pub mod row;
+pub mod rows;
+pub mod statuses;
+pub mod track;
