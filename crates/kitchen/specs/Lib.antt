@@ -1,3 +1,5 @@
 pub mod Tracks
 pub mod Kitchens
 pub mod Rows
+pub mod Endings
+pub mod Makes

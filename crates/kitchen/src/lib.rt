@@ -1,5 +1,6 @@
 //! Kitchens: what starts spans and decides when they end.
 pub mod interface;
+pub mod noted;
 pub mod row;
 pub mod rows;
 pub mod statuses;

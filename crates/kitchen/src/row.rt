@@ -8,6 +8,9 @@ use crate::track::Track;
 /// The most spans that a kitchen has.
 pub const MAX_SPANS: usize = 8;
 
+/// The most minutes that a span lasts.
+pub const MAX_MINUTES: u16 = 10_000;
+
 /// The spans of a kitchen that holds them itself.
 #[derive(Clone, Copy)]
 pub struct Row {
