@@ -1,4 +1,5 @@
 //! Kitchens: what starts spans and decides when they end.
+pub mod contrary;
 pub mod interface;
 pub mod noted;
 pub mod row;
