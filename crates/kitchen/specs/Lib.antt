@@ -3,3 +3,4 @@ pub mod Kitchens
 pub mod Rows
 pub mod Endings
 pub mod Makes
+pub mod Rests

@@ -2,6 +2,8 @@
 pub mod contrary;
 pub mod interface;
 pub mod noted;
+pub mod rest;
+pub mod resting;
 pub mod row;
 pub mod rows;
 pub mod statuses;
