@@ -59,9 +59,10 @@ module _ (bs : List (ℕ × ℕ)) where
   sofar-room i ts h lt s = omega (arith, ap length (s .0), length-map (take i bs) cold, length-take-le i bs (omega arith))
 
   pub sofar-more : (i : ℕ) (b : ℕ × ℕ) (ts us : List Track) → i < length bs → b ≡ getD bs i (0, 0) → Sofar i ts → Pushed ts b (Ok tt) us → Sofar (i + 1) us
-  sofar-more i b ts us lt e s p =
-      ( p .1 ∙ ap (λ x. x ++ (cold b ∷ [])) (s .0) ∙ ap (λ x. map cold (take i bs) ++ (cold x ∷ [])) e ∙ sym (map-more cold bs i (0, 0) lt)
-      , rw add-one (in-range-more bs i lt (s .1) (sym (ap in-range e) ∙ p .0)) )
+  sofar-more i b ts us lt e s p = (
+    p .1 ∙ ap (λ x. x ++ (cold b ∷ [])) (s .0) ∙ ap (λ x. map cold (take i bs) ++ (cold x ∷ [])) e ∙ sym (map-more cold bs i (0, 0) lt),
+    rw add-one (in-range-more bs i lt (s .1) (sym (ap in-range e) ∙ p .0)),
+  )
 
   pub sofar-bad : (i : ℕ) (b : ℕ × ℕ) (ts us : List Track) (r : Refusal) → length bs ≤ 8 → i < length bs → b ≡ getD bs i (0, 0) → Pushed ts b (Err r) us → fault bs ≡ Some r
   sofar-bad i b ts us r h lt e p = few h ∙ cond-false _ _ _ (out-of-range bs i lt (sym (ap in-range e) ∙ p .0)) ∙ ap Some (sym (p .1))

@@ -19,7 +19,7 @@ use Rattle.kitchen.specs.declared.track.Status.the-variants.{Cold, On, Done}
 use Rattle.kitchen.specs.Tracks.{no-track, fit, within, is-done, elapsed}
 use Rattle.kitchen.specs.Kitchens.{Lawful, Bounds, Tells, Started, begun, Next, Stepped, Advanced}
 use Rattle.kitchen.specs.Rests.{rest-for, told-status, told, rested, count-next, Counted, first-eight}
-use Rattle.kitchen.proofs.Steps.{Parts, parts, whole}
+use Rattle.kitchen.proofs.Parts.{parts, whole}
 
 pub first-long : (rs : List ℕ) → length (first-eight rs) ≡ 8
 first-long rs = length-take-le 8 (rs ++ replicate 8 0) (omega (arith, length-append rs (replicate 8 0)))
@@ -162,9 +162,10 @@ module _ (ts : List Track) (rs cs : List ℕ) (i : ℕ) where
       let at = ap (λ (t : Track). t .status) (rested-at ts rs cs i (h .0)) in
       (omega (arith, h .0), at ∙ ap (told-status _ (getD cs i 0)) (h .1), ap (λ ws. rested ws rs cs) (h .2) ∙ rested-set ts rs cs i (h .0))
   started-rested us (Err e) h =
-      let n = rested-long ts rs cs in
-      ( ⊎-elim
-        (λ a. inl (omega (arith, a .0), a .1))
-        (λ b. inr (omega (arith, b .0), (λ z. b .1 (cold-told (rest-for (getD rs i 0) (getD ts i no-track .most)) (getD cs i 0) (getD ts i no-track .status) (sym (ap (λ (t : Track). t .status) (rested-at ts rs cs i (b .0))) ∙ z))), b .2))
-        (h .0)
-      , ap (λ ws. rested ws rs cs) (h .1) )
+      let n = rested-long ts rs cs in (
+        ⊎-elim
+            (λ a. inl (omega (arith, a .0), a .1))
+            (λ b. inr (omega (arith, b .0), (λ z. b .1 (cold-told (rest-for (getD rs i 0) (getD ts i no-track .most)) (getD cs i 0) (getD ts i no-track .status) (sym (ap (λ (t : Track). t .status) (rested-at ts rs cs i (b .0))) ∙ z))), b .2))
+            (h .0),
+        ap (λ ws. rested ws rs cs) (h .1),
+      )

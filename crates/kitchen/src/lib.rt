@@ -2,9 +2,11 @@
 pub mod contrary;
 pub mod interface;
 pub mod noted;
-pub mod rest;
+mod rest;
 pub mod resting;
-pub mod row;
-pub mod rows;
-pub mod statuses;
+mod row;
+mod rows;
+mod statuses;
+#[cfg(test)]
+mod tests;
 pub mod track;

@@ -2,7 +2,7 @@
 ghost use mathlib.Core.Path.{_≡_};
 ghost use lib.ListN.{length, replicate};
 ghost use Rattle.kitchen.specs.Kitchens.{Started, Advanced};
-ghost use Rattle.kitchen.specs.Rests.{first-eight, rested, Counted};
+ghost use Rattle.kitchen.specs.Rests.{first-eight, rested, Counted, Rest-example};
 use crate::interface::Kitchen;
 use crate::rest::counted;
 use crate::rest::eight;
@@ -29,6 +29,7 @@ impl<K: Kitchen> Resting<K> {
         ensures under { λ r. ⌜ r .under ≡ under ⌝ }
         ensures rests { λ r. ⌜ r .rests ≡ first-eight (now (rests .entry)) ⌝ }
         ensures counts { λ r. ⌜ r .counts ≡ replicate 8 0 ⌝ }
+        ensures tells { λ r. ⌜ rested (K·Kitchen .spans (r .under)) (r .rests) (r .counts) ≡ rested (K·Kitchen .spans under) (now (rests .entry)) (replicate 8 0) ⌝ }
     {
         Resting {
             under,
@@ -37,6 +38,11 @@ impl<K: Kitchen> Resting<K> {
         }
     }
 }
+
+/// The worked example of bounds under a rest.
+pub fn rest_example()
+    ensures { λ _. ⌜ Rest-example ⌝ }
+{}
 
 pub impl<K: Kitchen> Kitchen for Resting<K> as RestingKitchen {
     ghost spans = { λ k. rested (K·Kitchen .spans (k .under)) (k .rests) (k .counts) };

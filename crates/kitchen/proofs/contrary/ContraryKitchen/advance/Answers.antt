@@ -1,6 +1,6 @@
 use mathlib.Core.Path.{refl}
 use Rattle.kitchen.proofs.Views.{row-lawful}
-use Rattle.kitchen.proofs.Steps.{advanced}
+use Rattle.kitchen.proofs.Endings.{advanced}
 use Rattle.kitchen.proofs.contrary.ContraryKitchen.advance.Needs as need
 
 pub returns : need.returns

@@ -1,6 +1,6 @@
 use mathlib.Core.Bool.{false}
 use Rattle.kitchen.proofs.Views.{row-lawful}
-use Rattle.kitchen.proofs.Steps.{advanced}
+use Rattle.kitchen.proofs.Endings.{advanced}
 use Rattle.kitchen.proofs.noted.NotedKitchen.advance.Needs as need
 
 pub returns : need.returns

@@ -8,5 +8,5 @@ returns g c =
     let e = c .advance .ensures in
     record {
       rule = advanced-rested (g .K·Kitchen .spans (k .under)) _ (k .rests) (k .counts) _ (g .K·Kitchen·met .keeps (k .under)) (e .rule) (c .counted-self .ensures);
-      own = (e .rule, e .own, refl, c .counted-self .ensures);
+      own = (e .rule, e .own, refl {a = k .rests}, c .counted-self .ensures);
     }

@@ -6,4 +6,4 @@ pub returns : need.returns
 returns g c =
     let k = c .args .self .now in
     let e = c .start .ensures in
-    record { rule = started-rested (g .K·Kitchen .spans (k .under)) (k .rests) (k .counts) (c .args .span) _ (c .start .result) (e .rule); own = (e .rule, e .own, refl, refl) }
+    record { rule = started-rested (g .K·Kitchen .spans (k .under)) (k .rests) (k .counts) (c .args .span) _ (c .start .result) (e .rule); own = (e .rule, e .own, refl {a = k .rests}, refl {a = k .counts}) }

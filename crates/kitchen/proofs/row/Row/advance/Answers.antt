@@ -4,7 +4,7 @@ use lib.ListN.{take, length}
 use Rattle.std.proofs.shelf.Lists.{take-map, length-map}
 use Rattle.kitchen.specs.Kitchens.{AllFit}
 use Rattle.kitchen.specs.Endings.{next-track}
-use Rattle.kitchen.proofs.Steps.{all-fit-next}
+use Rattle.kitchen.proofs.Endings.{all-fit-next}
 use Rattle.kitchen.proofs.row.Row.advance.Needs as need
 
 pub ghost-self : need.ghost-self

@@ -13,19 +13,7 @@ use Rattle.kitchen.specs.declared.track.Status.the-variants.{Cold, On, Done}
 use Rattle.kitchen.specs.Tracks.{no-track, fit, within}
 use Rattle.kitchen.specs.Kitchens.{AllFit, Lawful, Next, Stepped, Advanced}
 use Rattle.kitchen.specs.Endings.{next-status, next-track}
-
--- what a lawful span has
-pub record Parts (t : Track) : Type 0 where
-  pub low : 1 ≤ t .least
-  pub wide : t .least ≤ t .most
-  pub high : t .most ≤ 10000
-  pub is : within (t .least) (t .most) (t .status) ≡ true
-
-pub parts : (t : Track) → fit t ≡ true → Parts t
-parts t h = record { low = grind (arith, tells); wide = grind (arith, tells); high = grind (arith, tells); is = grind (arith, tells) }
-
-pub whole : (t : Track) → Parts t → fit t ≡ true
-whole t p = grind (arith, tells, p .low, p .wide, p .high, p .is)
+use Rattle.kitchen.proofs.Parts.{parts, whole}
 
 next-within : (b : Bool) (l m : ℕ) (s : Status) → l ≤ m → within l m s ≡ true → within l m (next-status b l m s) ≡ true
 next-within b l m Cold h w = refl
