@@ -4,3 +4,4 @@ pub mod Rows
 pub mod Endings
 pub mod Makes
 pub mod Rests
+pub mod Eithers

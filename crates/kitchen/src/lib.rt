@@ -1,5 +1,6 @@
 //! Kitchens: what starts spans and decides when they end.
 pub mod contrary;
+pub mod either;
 pub mod interface;
 pub mod noted;
 mod rest;
