@@ -74,7 +74,7 @@ fn try_span(tally: &mut Tally, points: usize, spans: usize, start: u8, least: u1
     tally.note(answered(&before, card.network(), expected, answer));
 }
 
-const STARTS: [u8; 4] = [0, 1, 40, 255];
+const STARTS: [u8; 8] = [0, 1, 11, 12, 31, 32, 40, 255];
 
 const LEASTS: [u16; 5] = [2, 0, 3, 2, 1441];
 
@@ -83,7 +83,7 @@ const MOSTS: [u16; 5] = [2, 2, 2, 1441, 1441];
 /// Spans: 3, 4, 5, 2, 6.
 pub fn span_faults() -> Tally {
     let mut tally = Tally::new();
-    for i in 0..4 {
+    for i in 0..8 {
         for j in 0..5 {
             try_span(&mut tally, 12, 1, STARTS[i], LEASTS[j], MOSTS[j]);
             try_span(&mut tally, 32, 1, STARTS[i], LEASTS[j], MOSTS[j]);

@@ -60,100 +60,6 @@ pub fn add(
     }
 }
 
-/// Point 1, and 0 to 1 by way of a tie of this gap: the loop 0 to 0 of the gap is made by N 2 1.
-fn gap_card(gap: i16) -> ClosedCard {
-    let mut card = OpenCard::new();
-    let _ = card.open(1000);
-    let _ = card.add_order();
-    let _ = card.add_tie(Tie {
-        from: 0,
-        to: 1,
-        gap,
-    });
-    let _ = card.add_tie(Tie {
-        from: 0,
-        to: 1,
-        gap: 1,
-    });
-    let _ = card.add_tie(Tie {
-        from: 0,
-        to: 1,
-        gap: -1,
-    });
-    card.close()
-}
-
-/// Doubles a loop of a thousand ten times less one, then adds up to a million: edges 5 to 14 weigh 1, 2, 4 .. 512 thousand.
-fn to_a_million(card: &ClosedCard, steps: &mut [Step]) -> usize {
-    let mut count = add(card, steps, 0, b'N', 2, 1);
-    for number in 5..14u32 {
-        count = add(card, steps, count, b'N', number, number);
-    }
-    count = add(card, steps, count, b'N', 14, 13);
-    count = add(card, steps, count, b'N', 15, 12);
-    count = add(card, steps, count, b'N', 16, 11);
-    count = add(card, steps, count, b'N', 17, 10);
-    add(card, steps, count, b'N', 18, 8)
-}
-
-fn weight_of(steps: &[Step], place: usize) -> i32 {
-    match steps.get(place) {
-        Some(step) => step.makes.weight,
-        None => 0,
-    }
-}
-
-/// One step over the limit, that claims this weight.
-fn try_over(
-    tally: &mut Tally,
-    card: &ClosedCard,
-    steps: &mut [Step],
-    count: usize,
-    tie: u32,
-    weight: i32,
-) {
-    let makes = Edge {
-        kind: Kind::Plain,
-        source: 0,
-        target: 1,
-        weight,
-    };
-    tally.note(card.next_edge(first(steps, count), b'N', 19, tie).is_none());
-    if count < steps.len() {
-        steps[count] = Step {
-            letter: b'N',
-            left: 19,
-            right: tie,
-            makes,
-        };
-        tally.note(read(card, first(steps, count + 1)) == 15);
-    }
-}
-
-/// Up to a million, over it, and down to less than minus a million.
-pub fn millions() -> Tally {
-    let mut tally = Tally::new();
-    let mut steps = [NO_STEP; 20];
-    let up = gap_card(1000);
-    let count = to_a_million(&up, &mut steps);
-    tally.note(count == 15 && weight_of(&steps, 14) == 1_000_000);
-    tally.note(read(&up, first(&steps, count)) == -2);
-    try_over(&mut tally, &up, &mut steps, count, 3, 1_000_001);
-    try_over(&mut tally, &up, &mut steps, count, 3, 1_000_000);
-    try_over(&mut tally, &up, &mut steps, count, 3, i32::MAX);
-    let down = gap_card(-1000);
-    let count = to_a_million(&down, &mut steps);
-    tally.note(count == 15 && weight_of(&steps, 14) == -1_000_000);
-    tally.note(read(&down, first(&steps, count)) == -1);
-    try_over(&mut tally, &down, &mut steps, count, 4, -1_000_001);
-    try_over(&mut tally, &down, &mut steps, count, 4, -1_000_000);
-    try_over(&mut tally, &down, &mut steps, count, 4, i32::MIN);
-    tally.note(
-        add(&down, &mut steps, count, b'M', 19, 19) == 16 && read(&down, first(&steps, 16)) == -1,
-    );
-    tally
-}
-
 /// Spans from 0 of 2 to 3 with the finishes 1 and 2, and ties from finish to finish. Given: 0 to 3 of the points, 4 to 7 and 8 to 11 of the
 /// spans (lower 6 and 10, wait 7 and 11), 12 and 13 of the ties.
 fn two_spans() -> ClosedCard {
@@ -196,137 +102,109 @@ fn wait(span: u8, source: u8, weight: i32) -> Edge {
     }
 }
 
-/// X with its spans, R and M with their numbers, references to edges that are not made yet.
+/// What R makes of edge 14, and what M does.
+const RELEASED: Edge = Edge {
+    kind: Kind::Plain,
+    source: 1,
+    target: 0,
+    weight: -2,
+};
+
+const PROJECTED: Edge = Edge {
+    kind: Kind::AllMost,
+    source: 1,
+    target: 0,
+    weight: -2,
+};
+
+/// X: another span, the wait's span on the made edge, a lower edge that meets the wait.
+fn spans_of_x(tally: &mut Tally, card: &ClosedCard) {
+    tally.note(after_wait(card, b'X', 6, 14, wait(1, 0, 0)) == -2);
+    tally.note(after_wait(card, b'X', 6, 14, wait(0, 0, 0)) == 1);
+    tally.note(after_wait(card, b'X', 6, 7, wait(0, 0, -1)) == 1);
+    tally.note(after_wait(card, b'X', 10, 14, wait(1, 0, 0)) == 1);
+}
+
+/// R and M: the same number twice, and for R a wait that is short enough.
+fn numbers_of_r_and_m(tally: &mut Tally, card: &ClosedCard) {
+    let long = Edge {
+        source: 2,
+        weight: -3,
+        ..RELEASED
+    };
+    let tie = Edge {
+        target: 2,
+        weight: 1,
+        ..PROJECTED
+    };
+    tally.note(after_wait(card, b'R', 14, 14, RELEASED) == -2);
+    tally.note(after_wait(card, b'R', 14, 11, RELEASED) == 1);
+    tally.note(after_wait(card, b'R', 11, 11, long) == 1);
+    tally.note(after_wait(card, b'M', 14, 14, PROJECTED) == -2);
+    tally.note(after_wait(card, b'M', 14, 12, PROJECTED) == 1);
+    tally.note(after_wait(card, b'M', 12, 12, tie) == -2);
+    tally.note(after_wait(card, b'M', 12, 13, tie) == 1);
+}
+
+/// Edges that are not made yet: the step's own, the next, one far off.
+fn references(tally: &mut Tally, card: &ClosedCard) {
+    tally.note(after_wait(card, b'M', 15, 15, PROJECTED) == 1);
+    tally.note(after_wait(card, b'M', 16, 16, PROJECTED) == 1);
+    tally.note(after_wait(card, b'U', 15, 14, wait(1, 1, -2)) == 1);
+    tally.note(after_wait(card, b'M', u32::MAX, u32::MAX, PROJECTED) == 1);
+}
+
 pub fn side_conditions() -> Tally {
     let mut tally = Tally::new();
     let card = two_spans();
-    let plain = Edge {
-        kind: Kind::Plain,
-        ..wait(1, 1, -2)
-    };
-    let all_most = Edge {
-        kind: Kind::AllMost,
-        ..plain
-    };
-    tally.note(after_wait(&card, b'X', 6, 14, wait(1, 0, 0)) == -2);
-    tally.note(after_wait(&card, b'X', 6, 14, wait(0, 0, 0)) == 1);
-    tally.note(after_wait(&card, b'X', 6, 7, wait(0, 0, -1)) == 1);
-    tally.note(after_wait(&card, b'X', 10, 14, wait(1, 0, 0)) == 1);
-    tally.note(after_wait(&card, b'R', 14, 14, plain) == -2);
-    tally.note(after_wait(&card, b'R', 14, 11, plain) == 1);
-    tally.note(
-        after_wait(
-            &card,
-            b'R',
-            11,
-            11,
-            Edge {
-                weight: -3,
-                source: 2,
-                ..plain
-            },
-        )
-            == 1,
-    );
-    tally.note(after_wait(&card, b'M', 14, 14, all_most) == -2);
-    tally.note(after_wait(&card, b'M', 14, 12, all_most) == 1);
-    tally.note(
-        after_wait(
-            &card,
-            b'M',
-            12,
-            13,
-            Edge {
-                target: 2,
-                weight: 1,
-                ..all_most
-            },
-        )
-            == 1,
-    );
-    tally.note(after_wait(&card, b'M', 15, 15, all_most) == 1);
-    tally.note(after_wait(&card, b'M', 16, 16, all_most) == 1);
-    tally.note(after_wait(&card, b'U', 15, 14, wait(1, 1, -2)) == 1);
-    tally.note(after_wait(&card, b'M', u32::MAX, u32::MAX, all_most) == 1);
+    spans_of_x(&mut tally, &card);
+    numbers_of_r_and_m(&mut tally, &card);
+    references(&mut tally, &card);
     tally
 }
 
-/// Of all letters, M alone takes the wait twice beside R; and the edge must be the one that it makes, in every part.
-pub fn letters_and_edges() -> Tally {
+/// Of all letters R alone makes a plain edge of edge 14, and M alone an all-most edge.
+pub fn letters() -> Tally {
     let mut tally = Tally::new();
     let card = two_spans();
-    let plain = Edge {
-        kind: Kind::Plain,
-        ..wait(1, 1, -2)
-    };
-    let all_most = Edge {
-        kind: Kind::AllMost,
-        ..plain
-    };
     for letter in 0..255u8 {
-        tally.note((after_wait(&card, letter, 14, 14, plain) == -2) == (letter == b'R'));
-        tally.note((after_wait(&card, letter, 14, 14, all_most) == -2) == (letter == b'M'));
+        let released = after_wait(&card, letter, 14, 14, RELEASED);
+        let projected = after_wait(&card, letter, 14, 14, PROJECTED);
+        tally.note((released == -2) == (letter == b'R'));
+        tally.note((projected == -2) == (letter == b'M'));
     }
-    for delta in -3..4 {
-        tally.note(
-            (after_wait(
-                &card,
-                b'R',
-                14,
-                14,
-                Edge {
-                    weight: delta - 2,
-                    ..plain
-                },
-            )
-                == -2)
-                == (delta == 0),
-        );
+    tally
+}
+
+/// Whether R of edge 14 is lawful with this edge.
+fn releases(card: &ClosedCard, makes: Edge) -> bool {
+    after_wait(card, b'R', 14, 14, makes) == -2
+}
+
+/// The edge must be the one that the step makes, in every part.
+pub fn made_edges() -> Tally {
+    let mut tally = Tally::new();
+    let card = two_spans();
+    for weight in -5..2i32 {
+        tally.note(releases(&card, Edge { weight, ..RELEASED }) == (weight == -2));
     }
     for point in 0..4u8 {
-        tally.note(
-            (after_wait(
-                &card,
-                b'R',
-                14,
-                14,
-                Edge {
-                    source: point,
-                    ..plain
-                },
-            )
-                == -2)
-                == (point == 1),
-        );
-        tally.note(
-            (after_wait(
-                &card,
-                b'R',
-                14,
-                14,
-                Edge {
-                    target: point,
-                    ..plain
-                },
-            )
-                == -2)
-                == (point == 0),
-        );
+        let from = Edge {
+            source: point,
+            ..RELEASED
+        };
+        let to = Edge {
+            target: point,
+            ..RELEASED
+        };
+        tally.note(releases(&card, from) == (point == 1));
+        tally.note(releases(&card, to) == (point == 0));
         tally.note((after_wait(&card, b'X', 6, 14, wait(point, 0, 0)) == -2) == (point == 1));
     }
-    tally.note(
-        after_wait(
-            &card,
-            b'R',
-            14,
-            14,
-            Edge {
-                kind: Kind::Lower(1),
-                ..plain
-            },
-        )
-            == 1,
-    );
-    tally.note(after_wait(&card, b'R', 14, 14, wait(1, 1, -2)) == 1);
+    let lower = Edge {
+        kind: Kind::Lower(1),
+        ..RELEASED
+    };
+    tally.note(!releases(&card, lower) && !releases(&card, wait(1, 1, -2)));
     tally
 }

@@ -3,6 +3,7 @@ mod calls;
 mod chances;
 mod faults;
 mod lists;
+mod millions;
 mod random;
 mod ranges;
 mod reader;
@@ -23,9 +24,10 @@ fn run(rt: &LibcRuntime) -> Result<(), AnyError> {
     report(rt, "rooms", ranges::rooms())?;
     report(rt, "faults of spans", faults::span_faults())?;
     report(rt, "faults of ties", faults::tie_faults())?;
-    report(rt, "weights at a million", lists::millions())?;
+    report(rt, "weights at a million", millions::millions())?;
     report(rt, "side conditions", lists::side_conditions())?;
-    report(rt, "letters and edges", lists::letters_and_edges())?;
+    report(rt, "letters", lists::letters())?;
+    report(rt, "made edges", lists::made_edges())?;
     let outcome = chances::try_cards(2000);
     report(rt, "random lists", outcome.tally)?;
     println!(
