@@ -19,6 +19,12 @@ pub enum Command<'a> {
     Show,
     /// The words after the first are the steps.
     Steps,
+    Distances,
+    /// The words after the first say which.
+    MakeKitchen,
+    /// The words after the first are the rests.
+    Rest,
+    Clock,
     /// A known command with a missing, malformed or additional word.
     Unreadable,
     Unknown,
@@ -85,6 +91,10 @@ pub fn read_command<'a>(words: &[&'a str]) -> Command<'a> {
         "reopen" => within(words, 1, Command::Reopen),
         "show" => within(words, 1, Command::Show),
         "steps" => Some(Command::Steps),
+        "distances" => within(words, 1, Command::Distances),
+        "kitchen" => Some(Command::MakeKitchen),
+        "rest" => Some(Command::Rest),
+        "clock" => within(words, 1, Command::Clock),
         _ => Some(Command::Unknown),
     };
     read.unwrap_or(Command::Unreadable)

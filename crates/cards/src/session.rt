@@ -1,9 +1,18 @@
 //! The card that a script works on, and the answers to its commands.
 use crate::command::Command;
+use crate::kitchens::ScriptKitchen;
+use crate::kitchens::clock;
+use crate::kitchens::lay_rest;
+use crate::kitchens::make_kitchen;
 use crate::show::show_card;
 use crate::steps::read_steps;
+use crate::tables::print_distances;
 use card::closed::ClosedCard;
 use card::open::OpenCard;
+use kitchen::contrary::ContraryKitchen;
+use kitchen::either::EitherKitchen;
+use kitchen::noted::NotedKitchen;
+use kitchen::resting::RestingKitchen;
 use rules::parts::Tie;
 use rules::refusal::Refusal;
 use std::error::AnyError;
@@ -135,34 +144,41 @@ fn on_closed(
             return Ok(Held::Open(card.reopen()));
         }
         Command::Steps => read_steps(rt, &card, words)?,
+        Command::Distances => print_distances(rt, &card)?,
         Command::Show => show_card(rt, card.network(), names.list.as_slice())?,
         _ => return not_now(rt, Held::Closed(card)),
     }
     Ok(Held::Closed(card))
 }
 
-/// Performs a command, prints its answer, and gives the card on.
-pub fn perform(
+/// A command on the card.
+pub fn on_card(
     rt: &LibcRuntime,
     held: Held,
     names: &mut Names,
     command: Command,
     words: &[&str],
 ) -> Result<Held, AnyError> {
-    match command {
-        Command::Nothing => return Ok(held),
-        Command::Unknown => {
-            rt.println("unknown")?;
-            return Ok(held);
-        }
-        Command::Unreadable => {
-            rt.println("unreadable")?;
-            return Ok(held);
-        }
-        _ => {}
-    }
     match held {
         Held::Open(card) => on_open(rt, card, names, command),
         Held::Closed(card) => on_closed(rt, card, names, command, words),
     }
+}
+
+/// A command on the kitchen, which any state of the card takes.
+pub fn on_kitchen(
+    rt: &LibcRuntime,
+    mut kitchen: ScriptKitchen,
+    command: Command,
+    words: &[&str],
+) -> Result<ScriptKitchen, AnyError> {
+    match command {
+        Command::MakeKitchen => make_kitchen(rt, &mut kitchen, words)?,
+        Command::Rest => return lay_rest(rt, kitchen, words),
+        Command::Clock => clock(rt, &mut kitchen)?,
+        Command::Unknown => rt.println("unknown")?,
+        Command::Unreadable => rt.println("unreadable")?,
+        _ => {}
+    }
+    Ok(kitchen)
 }

@@ -68,14 +68,14 @@ some-is true x e q = (refl, cc)
 some-is false x e q = let z : _≡_ {A = ℕ} 0 1 = cc in absurd (omega arith)
 
 module _ (es : List Edge) (i : ℕ) where
-  edge-known : (e : Edge) → edgeAt es i ≡ Some e → (i < length es) × ((d : Edge) → getD es i d ≡ e)
+  pub edge-known : (e : Edge) → edgeAt es i ≡ Some e → (i < length es) × ((d : Edge) → getD es i d ≡ e)
   unfolding edgeAt
   edge-known e q =
       let r = some-is (ltb i (length es)) (getD es i no-edge) e q in
       let h : i < length es = ltb-true i (length es) (r .0) in
       (h, λ d. getD-default es i d no-edge h ∙ r .1)
 
-  edge-unknown : edgeAt es i ≡ None → i < length es → ⊥
+  pub edge-unknown : edgeAt es i ≡ None → i < length es → ⊥
   edge-unknown q h = let s = edge-some es i (getD es i no-edge) h refl in let z : _≡_ {A = ℕ} 0 1 = cc in omega arith
 
 module _ (card : Card) (es : List Edge) (letter left right : ℕ) where

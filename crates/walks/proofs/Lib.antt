@@ -1,0 +1,4 @@
+pub mod Bests
+mod Tables
+pub mod Walking
+pub mod Wholes
