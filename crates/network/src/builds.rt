@@ -9,6 +9,17 @@ use rules::parts::Span;
 use rules::parts::Tie;
 use rules::refusal::Refusal;
 
+/// The last minute that a card may have; a span lasts no longer, and a tie reaches no farther.
+const MAX_MINUTES: u16 = 1440;
+
+const MAX_GAP: i16 = 1440;
+
+const MAX_POINTS: usize = 32;
+
+const MAX_SPANS: usize = 8;
+
+const MAX_TIES: usize = 96;
+
 const NO_SPAN: Span = Span {
     start: 0,
     finish: 0,
@@ -45,7 +56,7 @@ impl Network {
         ensures answer { λ r. ⌜ r ≡ open-answer horizon ⌝ }
         ensures card { λ _. ⌜ model (now (self .exit) .content) ≡ opened horizon (model (now (self .entry) .content)) ⌝ }
     {
-        if horizon < 1 || horizon > 1440 {
+        if horizon < 1 || horizon > MAX_MINUTES {
             return Err(Refusal::HorizonRange);
         }
         *self = Network::fresh(horizon);
@@ -58,7 +69,7 @@ impl Network {
         ensures card { λ _. ⌜ model (now (self .exit) .content) ≡ ordered (model (now (self .entry) .content)) ⌝ }
     {
         let point = self.content.points;
-        if point >= 32 {
+        if point >= MAX_POINTS {
             return Err(Refusal::PointsFull);
         }
         self.content.points = point + 1;
@@ -75,13 +86,13 @@ impl Network {
         if self.is_finish(start) {
             return Some(Refusal::StartIsFinish);
         }
-        if least < 1 || most < least || most > 1440 {
+        if least < 1 || most < least || most > MAX_MINUTES {
             return Some(Refusal::BoundsRange);
         }
-        if self.content.points >= 32 {
+        if self.content.points >= MAX_POINTS {
             return Some(Refusal::PointsFull);
         }
-        if self.content.spanned >= 8 {
+        if self.content.spanned >= MAX_SPANS {
             return Some(Refusal::SpansFull);
         }
         None
@@ -119,7 +130,7 @@ impl Network {
         if tie.from == tie.to {
             return Some(Refusal::SamePoint);
         }
-        if tie.gap < -1440 || tie.gap > 1440 {
+        if tie.gap < -MAX_GAP || tie.gap > MAX_GAP {
             return Some(Refusal::GapRange);
         }
         None
@@ -134,7 +145,7 @@ impl Network {
             return Err(fault);
         }
         let at = self.content.tied;
-        if at >= 96 {
+        if at >= MAX_TIES {
             return Err(Refusal::TiesFull);
         }
         self.content.ties[at] = tie;

@@ -3,8 +3,8 @@ use Rattle.std.proofs.shelf.Ways.{tells}
 use Rattle.network.proofs.Parts.{span-count}
 use Rattle.network.proofs.network.Network.span_fault.Needs as need
 
-pub returns-then-self-ge8 : need.returns-then-self-ge8
-returns-then-self-ge8 c = let n = span-count (c .args .self .now) in grind (arith, tells)
+pub returns-then-self-ge-MAX-SPANS : need.returns-then-self-ge-MAX-SPANS
+returns-then-self-ge-MAX-SPANS c = let n = span-count (c .args .self .now) in grind (arith, tells)
 
 pub returns : need.returns
 returns c = let n = span-count (c .args .self .now) in grind (arith, tells)
