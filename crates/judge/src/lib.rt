@@ -1,2 +1,3 @@
 //! The judge of a card: whether the controller can win, with the tables by which it does.
 pub mod closure;
+pub mod target;
