@@ -1,1 +1,4 @@
 pub mod Writing
+pub mod Heights
+pub mod Deriving
+pub mod Holding

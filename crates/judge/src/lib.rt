@@ -1,3 +1,6 @@
 //! The judge of a card: whether the controller can win, with the tables by which it does.
 pub mod closure;
+mod parts;
+mod relax;
+mod reductions;
 pub mod target;
