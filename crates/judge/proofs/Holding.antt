@@ -7,6 +7,7 @@ use native.Mathlib.Omega.{arith}
 use borrow.Author.Count.{below-more}
 use lib.IntN.{ℤ, pos, negsuc, negℤ, _+ℤ_}
 use lib.Signed.{_≤ℤ_, _<ℤ_}
+use Rattle.std.specs.declared.option.Option.{Option}
 use Rattle.std.specs.declared.result.Result.{Result}
 use Rattle.std.specs.declared.result.Result.the-variants.{Ok, Err}
 use Rattle.std.proofs.shelf.Signed.{ints}
@@ -168,3 +169,6 @@ proposed-falls {p = p} {x = x} falls w = record {
   high = w .high;
   next = λ less. next-wider (near-falls falls) (w .next (omega (arith, ints, less, falls p x)));
 }
+
+pub offered-falls : {card : Card} {t t′ : Closure} {p : ℕ} {x : Target} {w : Option ℤ} → Falls t t′ → Offered card t p x w → Offered card t′ p x w
+offered-falls falls o = record { value = o .value; there = o .there; proposed = proposed-falls falls (o .proposed) }

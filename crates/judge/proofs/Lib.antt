@@ -2,3 +2,4 @@ pub mod Writing
 pub mod Heights
 pub mod Deriving
 pub mod Holding
+pub mod Chaining

@@ -194,3 +194,4 @@ pub record Begins (card : Card) (p : ℕ) (x : Target) (v : ℤ) : Type 0 where
   pub late : (q : ℕ) → q ≢ p → q ≢ 0 → x ≡ Point q → v ≡ pos (card .horizon)
   pub wait : (s : ℕ) → p ≢ finishOf card s → x ≡ Start s → v ≡ pos (card .horizon) +ℤ negℤ (pos (mostOf card s))
   pub finish : (s : ℕ) → p ≡ finishOf card s → x ≡ Start s → v ≡ negℤ (pos (mostOf card s))
+
