@@ -17,8 +17,7 @@ use walks::table::weight_at;
 use walks::weight::Weight;
 
 /// Writes an edge's weight into the table, if it is plain and lighter.
-fn note(table: &mut [[Minutes; 32]; 32], edge: Edge)
-{
+fn note(table: &mut [[Minutes; 32]; 32], edge: Edge) {
     let Kind::Plain = edge.kind else {
         return;
     };

@@ -159,12 +159,16 @@ module _ (n : Network) where
       where
         short : (x : Target) → In card x → (v +ℤ distance t (head card x) p) <ℤ pos 0 → head card x ≡ p → Derived card InRange (edge-to card p x v) → Doomed card
         short (Point q) lx neg same d = record {
-          kind = Plain; point = p; weight = v;
+          kind = Plain;
+          point = p;
+          weight = v;
           loop = subst (λ z. Derived card InRange (edge Plain p z v)) same d;
           negative = omega (arith, ints, neg, ap (λ y. distance t y p) same ∙ holds .itself p lp);
         }
         short (Start s) lx neg same d = record {
-          kind = Wait s; point = p; weight = v;
+          kind = Wait s;
+          point = p;
+          weight = v;
           loop = subst (λ z. Derived card InRange (edge (Wait s) p z v)) same d;
           negative = omega (arith, ints, neg, ap (λ y. distance t y p) same ∙ holds .itself p lp);
         }
@@ -175,14 +179,18 @@ module _ (n : Network) where
         long : (x : Target) → (v +ℤ distance t (head card x) p) <ℤ pos 0 → Derived card InRange (edge-to card p x v) → Derived card InRange (edge Plain (head card x) p (distance t (head card x) p))
             → negsuc 1439 ≤ℤ distance t (head card x) p → distance t (head card x) p ≤ℤ pos 1440 → Doomed card
         long (Point q) neg d k a b = record {
-          kind = Plain; point = p; weight = v +ℤ distance t q p;
+          kind = Plain;
+          point = p;
+          weight = v +ℤ distance t q p;
           loop = by-rule (rule-N p q p v (distance t q p)) d k (sums a b);
           negative = neg;
         }
         long (Start s) neg d k a b =
             let q = startOf card s in
             record {
-              kind = AllMost; point = p; weight = v +ℤ distance t q p;
+              kind = AllMost;
+              point = p;
+              weight = v +ℤ distance t q p;
               loop = by-rule (rule-S p q p v (distance t q p)) (by-rule (rule-Mw s p q v) d d (edge-range card p (Start s) v (w .low) (w .high))) (by-rule (rule-M q p (distance t q p)) k k (omega (arith, ints), omega (arith, ints))) (sums a b);
               negative = neg;
             }

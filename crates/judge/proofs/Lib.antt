@@ -3,3 +3,4 @@ pub mod Heights
 pub mod Deriving
 pub mod Holding
 pub mod Chaining
+pub mod Beginning

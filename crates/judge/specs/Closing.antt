@@ -2,8 +2,9 @@
 use Prim.Native.Nat.{ℕ, zero, suc, _+_, _-_, _≤_, _<_}
 use mathlib.Core.Path.{_≡_}
 use mathlib.Core.Logic.{_≢_}
-use mathlib.Core.Bool.{Bool, true, false}
-use lib.IntN.{ℤ, pos, negsuc, negℤ, _+ℤ_}
+use mathlib.Core.Bool.{Bool, true, false, cond, _||_}
+use lib.Dec.{eqb}
+use lib.IntN.{ℤ, pos, negsuc, negℤ, _+ℤ_, _-ℤ_}
 use lib.Signed.{_≤ℤ_, _<ℤ_}
 use Rattle.std.specs.declared.option.Option.{Option}
 use Rattle.std.specs.declared.option.Option.the-variants.{Some, None}
@@ -187,11 +188,7 @@ pub record IsTie (card : Card) (i : ℕ) (r : Tie) : Type 0 where
 abbrev pub InTime : Card → Type 0
 InTime card = (s : ℕ) → s < spanCount card → mostOf card s ≤ card .horizon
 
--- an entry to begin with: 0 to the point itself and to point 0, H to other points; for a wait what the horizon leaves, and less at the finish
-pub record Begins (card : Card) (p : ℕ) (x : Target) (v : ℤ) : Type 0 where
-  pub itself : x ≡ Point p → v ≡ pos 0
-  pub home : x ≡ Point 0 → v ≡ pos 0
-  pub late : (q : ℕ) → q ≢ p → q ≢ 0 → x ≡ Point q → v ≡ pos (card .horizon)
-  pub wait : (s : ℕ) → p ≢ finishOf card s → x ≡ Start s → v ≡ pos (card .horizon) +ℤ negℤ (pos (mostOf card s))
-  pub finish : (s : ℕ) → p ≡ finishOf card s → x ≡ Start s → v ≡ negℤ (pos (mostOf card s))
-
+-- an entry to begin with: 0 to the point itself and to point 0, H to other points; for a wait what the horizon leaves, or at the finish the given edge
+abbrev pub begun : Card → ℕ → Target → ℤ
+begun card p (Point q) = cond (eqb q p || eqb q 0) (pos 0) (pos (card .horizon))
+begun card p (Start s) = cond (eqb p (finishOf card s)) (negℤ (pos (mostOf card s))) (pos (card .horizon) -ℤ pos (mostOf card s))

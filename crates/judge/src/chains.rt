@@ -79,7 +79,12 @@ fn relax_best(
 }
 
 /// Lowers the distances from p to the best weights.
-fn relax_row(network: &Network, t: &mut Closure, p: usize, best: &[Minutes; 32]) -> Result<bool, NegativeLoop>
+fn relax_row(
+    network: &Network,
+    t: &mut Closure,
+    p: usize,
+    best: &[Minutes; 32],
+) -> Result<bool, NegativeLoop>
     requires holds { ⌜ Holds (model (now network .content)) (now t) ⌝ }
     requires point { ⌜ p < model (now network .content) .points ⌝ }
     requires offered { ⌜ ((q : ℕ) → q < model (now network .content) .points → Offered (model (now network .content)) (now t) p (Point q) (at of-minutes absent-minutes (now best) q)) ⌝ }
@@ -93,7 +98,11 @@ fn relax_row(network: &Network, t: &mut Closure, p: usize, best: &[Minutes; 32])
 }
 
 /// Lowers all distances to the best weights.
-fn relax_table(network: &Network, t: &mut Closure, best: &[[Minutes; 32]; 32]) -> Result<bool, NegativeLoop>
+fn relax_table(
+    network: &Network,
+    t: &mut Closure,
+    best: &[[Minutes; 32]; 32],
+) -> Result<bool, NegativeLoop>
     requires holds { ⌜ Holds (model (now network .content)) (now t) ⌝ }
     requires offered { ⌜ ((p q : ℕ) → p < model (now network .content) .points → q < model (now network .content) .points → Offered (model (now network .content)) (now t) p (Point q) (cell of-minutes absent-minutes (now best) p q)) ⌝ }
     ensures { λ r. ⌜ Told (model (now (network .entry) .content)) (now (t .entry)) (now (t .exit)) (Below ((model (now (network .entry) .content)) .points) (λ p. Below ((model (now (network .entry) .content)) .points) (λ q. Within (now (t .entry)) p (Point q) (cell of-minutes absent-minutes (now (best .entry)) p q)))) r ⌝ }
@@ -169,7 +178,12 @@ fn wait_row(network: &Network, t: &Closure, s: usize, row: &mut [PlainWait; 32])
 }
 
 /// Lowers the waits of span s to the best weights.
-fn relax_waits(network: &Network, t: &mut Closure, s: usize, best: &[PlainWait; 32]) -> Result<bool, NegativeLoop>
+fn relax_waits(
+    network: &Network,
+    t: &mut Closure,
+    s: usize,
+    best: &[PlainWait; 32],
+) -> Result<bool, NegativeLoop>
     requires holds { ⌜ Holds (model (now network .content)) (now t) ⌝ }
     requires span { ⌜ s < spanCount (model (now network .content)) ⌝ }
     requires offered { ⌜ ((p : ℕ) → p < model (now network .content) .points → Offered (model (now network .content)) (now t) p (Start s) (at of-pair absent-pair (now best) p .1)) ⌝ }

@@ -1,7 +1,9 @@
 //! The judge of a card: whether the controller can win, with the tables by which it does.
+mod begins;
 mod chains;
 pub mod closure;
+pub mod judging;
 mod parts;
-mod relax;
 mod reductions;
+mod relax;
 pub mod target;

@@ -64,7 +64,13 @@ fn lower(network: &Network, t: &mut Closure, s: usize, x: Target) -> Result<bool
     if weight >= 0 {
         return Ok(false);
     }
-    relax(network, t, span.start as usize, x, span.least as i32 + weight)
+    relax(
+        network,
+        t,
+        span.start as usize,
+        x,
+        span.least as i32 + weight,
+    )
 }
 
 /// L of span s.

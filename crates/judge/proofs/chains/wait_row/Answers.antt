@@ -23,7 +23,7 @@ pub loop-p-again : need.loop-p-again
 loop-p-again c =
     let p = c .loop-p .p in
     let parts : of-pair (record { plain = c .absent .result; wait = c .weight-of .result }) ≡ (None, Some (wait (c .args .t .now) (c .args .s) p)) =
-        ap₂ {A = Whole} {B = Whole} {C = Pair} (λ a b. (a, b)) (ap of-minutes (c .absent .ensures)) (c .weight-of .ensures) in
+    ap₂ {A = Whole} {B = Whole} {C = Pair} (λ a b. (a, b)) (ap of-minutes (c .absent .ensures)) (c .weight-of .ensures) in
     below-more (λ k. at of-pair absent-pair (c .put-place .last .row) k ≡ (None, Some (wait (c .args .t .now) (c .args .s) k))) p
     (λ k lt. let ne : k ≢ p = omega arith in ap of-pair (c .put-place .ensures .others absent-pair k ne) ∙ c .loop-p .inv k lt)
     (ap of-pair (c .put-place .ensures .here absent-pair) ∙ parts)
