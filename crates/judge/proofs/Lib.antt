@@ -4,3 +4,4 @@ pub mod Deriving
 pub mod Holding
 pub mod Chaining
 pub mod Beginning
+pub mod Telling

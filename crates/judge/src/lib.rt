@@ -3,6 +3,7 @@ mod begins;
 mod chains;
 pub mod closure;
 pub mod judging;
+pub mod marking;
 mod parts;
 mod reductions;
 mod relax;
