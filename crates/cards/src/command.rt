@@ -20,6 +20,9 @@ pub enum Command<'a> {
     /// The words after the first are the steps.
     Steps,
     Distances,
+    Check,
+    Try(Tie),
+    Stretch,
     /// The words after the first say which.
     MakeKitchen,
     /// The words after the first are the rests.
@@ -67,11 +70,21 @@ fn read_span<'a>(words: &[&'a str]) -> Option<Command<'a>> {
     within(words, 5, Command::Span(start, least, most, name))
 }
 
-fn read_tie<'a>(words: &[&'a str]) -> Option<Command<'a>> {
+fn read_tie(words: &[&str]) -> Option<Tie> {
     let from = to_u8(number(words, 1)?);
     let to = to_u8(number(words, 2)?);
     let gap = to_i16(number(words, 3)?);
-    within(words, 4, Command::AddTie(Tie { from, to, gap }))
+    Some(Tie { from, to, gap })
+}
+
+fn read_add_tie<'a>(words: &[&'a str]) -> Option<Command<'a>> {
+    let tie = read_tie(words)?;
+    within(words, 4, Command::AddTie(tie))
+}
+
+fn read_try<'a>(words: &[&'a str]) -> Option<Command<'a>> {
+    let tie = read_tie(words)?;
+    within(words, 4, Command::Try(tie))
 }
 
 /// The command of a line's words.
@@ -86,12 +99,15 @@ pub fn read_command<'a>(words: &[&'a str]) -> Command<'a> {
         "open" => read_open(words),
         "order" => read_order(words),
         "span" => read_span(words),
-        "tie" => read_tie(words),
+        "tie" => read_add_tie(words),
         "close" => within(words, 1, Command::Close),
         "reopen" => within(words, 1, Command::Reopen),
         "show" => within(words, 1, Command::Show),
         "steps" => Some(Command::Steps),
         "distances" => within(words, 1, Command::Distances),
+        "check" => within(words, 1, Command::Check),
+        "try" => read_try(words),
+        "stretch" => within(words, 1, Command::Stretch),
         "kitchen" => Some(Command::MakeKitchen),
         "rest" => Some(Command::Rest),
         "clock" => within(words, 1, Command::Clock),

@@ -1,5 +1,8 @@
 //! The card that a script works on, and the answers to its commands.
 use crate::command::Command;
+use crate::judging::check;
+use crate::judging::stretch;
+use crate::judging::try_tie;
 use crate::kitchens::ScriptKitchen;
 use crate::kitchens::clock;
 use crate::kitchens::lay_rest;
@@ -123,7 +126,7 @@ fn on_open(
 /// A command on a closed card.
 fn on_closed(
     rt: &LibcRuntime,
-    card: ClosedCard,
+    mut card: ClosedCard,
     names: &Names,
     command: Command,
     words: &[&str],
@@ -135,6 +138,9 @@ fn on_closed(
         }
         Command::Steps => read_steps(rt, &card, words)?,
         Command::Distances => print_distances(rt, &card)?,
+        Command::Check => check(rt, &card)?,
+        Command::Try(tie) => try_tie(rt, &mut card, tie)?,
+        Command::Stretch => stretch(rt, &card)?,
         Command::Show => show_card(rt, card.network(), names.list.as_slice())?,
         _ => return not_now(rt, Held::Closed(card)),
     }
