@@ -1,7 +1,7 @@
 //! The kitchen that a script names, and the command `clock`.
 use crate::numbers::read_number;
 use crate::numbers::to_u16;
-use crate::session::refuse;
+use crate::refusals::refuse;
 use kitchen::contrary::Contrary;
 use kitchen::contrary::ContraryKitchen;
 use kitchen::either::Either;

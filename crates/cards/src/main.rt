@@ -2,6 +2,7 @@
 mod command;
 mod kitchens;
 mod numbers;
+mod refusals;
 mod session;
 mod show;
 mod steps;

@@ -4,6 +4,7 @@ use crate::kitchens::ScriptKitchen;
 use crate::kitchens::clock;
 use crate::kitchens::lay_rest;
 use crate::kitchens::make_kitchen;
+use crate::refusals::refuse;
 use crate::show::show_card;
 use crate::steps::read_steps;
 use crate::tables::print_distances;
@@ -35,17 +36,6 @@ impl Names {
         self.list.push(String::from_str(rt.alloc(), name)?)?;
         Ok(())
     }
-}
-
-pub fn refuse(rt: &LibcRuntime, refusal: Refusal) -> Result<(), AnyError> {
-    let number = refusal.number();
-    let words = refusal.words();
-    if let Refusal::StepUnlawful(place) = refusal {
-        println!(rt, "refused {number} at {place} ({words})")?;
-    } else {
-        println!(rt, "refused {number} ({words})")?;
-    }
-    Ok(())
 }
 
 /// The answer to a command that the card's state does not take.

@@ -1,7 +1,7 @@
 //! The command `steps`: a list of steps, each by its letter, left and right.
 use crate::numbers::read_number;
 use crate::numbers::to_u32;
-use crate::session::refuse;
+use crate::refusals::refuse;
 use card::closed::ClosedCard;
 use rules::edges::Edge;
 use rules::edges::Kind;

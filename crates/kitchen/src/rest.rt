@@ -13,7 +13,7 @@ use crate::track::Status;
 pub const MAX_REST: u16 = 240;
 
 /// The rest that counts for a span of this most.
-pub fn rest_for(rest: u16, most: u16) -> u16
+pub(crate) fn rest_for(rest: u16, most: u16) -> u16
     requires { ⌜ most ≤ 10000 ⌝ }
     ensures { λ r. ⌜ r ≡ rest-for rest most ⌝ }
 {
@@ -21,7 +21,7 @@ pub fn rest_for(rest: u16, most: u16) -> u16
 }
 
 /// How a status is told under a rest that counts, `count` advances after the span was first seen done.
-pub fn told(status: Status, rest: u16, count: u16) -> Status
+pub(crate) fn told(status: Status, rest: u16, count: u16) -> Status
     requires { ⌜ rest ≤ 240 ⌝ ∗ ⌜ elapsed status ≤ 10000 ⌝ }
     ensures { λ r. ⌜ r ≡ told-status rest count status ⌝ }
 {

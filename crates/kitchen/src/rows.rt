@@ -41,7 +41,7 @@ impl Row {
     }
 
     /// One span more, cold, unless its bounds are out of range.
-    pub fn push(&mut self, least: u16, most: u16) -> Result<(), Refusal>
+    pub(crate) fn push(&mut self, least: u16, most: u16) -> Result<(), Refusal>
         requires { ⌜ length (row-spans (now self)) < 8 ⌝ }
         ensures { λ r. ⌜ Pushed (row-spans (now (self .entry))) (least, most) r (row-spans (now (self .exit))) ⌝ }
     {

@@ -1,4 +1,4 @@
-//! What stands for a refusal: its number, and words for a reader.
+//! The number that stands for a refusal.
 ghost use mathlib.Core.Path.{_≡_};
 ghost use Rattle.rules.specs.Refusals.{number-of};
 use crate::refusal::Refusal;
@@ -29,32 +29,6 @@ impl Refusal {
             Refusal::NoLoop => 18,
             Refusal::NoSpan => 23,
             Refusal::NotCold => 24,
-        }
-    }
-
-    /// Words for a reader of answers.
-    pub fn words(self) -> &'static str {
-        match self {
-            Refusal::HorizonRange => "horizon outside 1 to 1440",
-            Refusal::PointsFull => "32 points stand",
-            Refusal::NoPoint => "no such point",
-            Refusal::StartIsFinish => "start is a finish",
-            Refusal::BoundsRange => "bounds outside the rule",
-            Refusal::SpansFull => "8 spans stand",
-            Refusal::SamePoint => "tie of a point to itself",
-            Refusal::GapRange => "gap outside -1440 to 1440",
-            Refusal::TiesFull => "96 ties stand",
-            Refusal::Barred => "run is barred",
-            Refusal::KitchenUnfit => "kitchen does not fit",
-            Refusal::HorizonPlayed => "last minute is played",
-            Refusal::ShortBuffer => "buffer too short",
-            Refusal::KitchenDisagrees => "kitchen disagrees",
-            Refusal::StepsSpent => "steps are spent",
-            Refusal::CardGood => "card is good",
-            Refusal::StepUnlawful(_) => "step unlawful",
-            Refusal::NoLoop => "no closing loop",
-            Refusal::NoSpan => "no such span",
-            Refusal::NotCold => "span is not cold",
         }
     }
 }

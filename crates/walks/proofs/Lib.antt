@@ -1,4 +1,4 @@
 pub mod Bests
-mod Tables
+pub mod Tables
 pub mod Walking
 pub mod Wholes

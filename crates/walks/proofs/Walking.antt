@@ -1,7 +1,7 @@
 -- Best weights over walks: what the laws of weights give. Assumes nothing.
 use mathlib.Core.Path.{_≡_, refl, sym, ap, _∙_}
 use mathlib.Core.Logic.{⊎-elim}
-use Prim.Native.Nat.{ℕ, zero, suc, _+_, _-_, _*_, _/_, _≤_, _<_, max}
+use Prim.Native.Nat.{ℕ, zero, suc, _+_, _*_, _/_, _≤_, _<_, max}
 use native.Mathlib.Omega.{arith}
 use native.Mathlib.Nat.{add-mul, mul-div-le, mul-le-mul-right, suc-mul, one-mul}
 use Rattle.std.proofs.shelf.Tests.{cases-lt, cond-below, cond-above}

@@ -19,7 +19,7 @@ fn extend<W: Weight, const N: usize>(into: &mut [W; N], n: usize, first: W, row:
     }
 }
 
-/// Chooses each of the first n weights of `row`, which go from p, with every way through one point more.
+/// Chooses each of the first n weights of `row`, which lead from p, with every way through one point.
 fn double_row<W: Weight, const N: usize>(best: &[[W; N]; N], p: usize, row: &mut [W; N], n: usize)
     requires fits { ⌜ n ≤ N ⌝ ∗ ⌜ p < n ⌝ }
     requires small { ⌜ ((r q : ℕ) → r < n → q < n → size (cell meaning absent (now best) p r) + size (cell meaning absent (now best) r q) ≤ limit) ⌝ }

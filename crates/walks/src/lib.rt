@@ -1,4 +1,4 @@
-//! Best weights over walks, once for every kind of weight.
+//! Best weights over walks, once for every kind of weight: minutes, and pairs of a plain and a wait part.
 pub mod closure;
 pub mod minutes;
 pub mod plain_wait;

@@ -2,8 +2,8 @@
 //! The counts and sums go to standard output, and the times to standard error.
 mod sample;
 
-ghost use Prim.Native.Nat.{ℕ, _*_, _/_, _^_, _≤_};
-ghost use Rattle.walks.specs.Tables.{cell, at, Small, Small-row};
+ghost use Prim.Native.Nat.{_/_, _≤_};
+ghost use Rattle.walks.specs.Tables.{cell, Small};
 use crate::sample::MinutesSample;
 use crate::sample::PlainWaitSample;
 use crate::sample::Sample;
@@ -20,8 +20,10 @@ use walks::target::best_walks_to;
 
 const POINTS: usize = 32;
 
+/// For walks of up to 32 edges.
 const DOUBLINGS: usize = 5;
 
+/// The same for walks to one target.
 const EDGES: usize = 32;
 
 const ROUNDS: usize = 1000;
@@ -95,6 +97,7 @@ fn report(rt: &LibcRuntime, name: &str, joins: usize, sum: i64, start: Instant) 
 }
 
 fn main(rt: LibcRuntime) -> io::Result<()> {
+    // Where no weight is absent, no way is left out.
     let all = POINTS * POINTS * POINTS * DOUBLINGS;
     let one = POINTS * POINTS * (EDGES - 1);
     let mut edges = [[Minutes::absent(); POINTS]; POINTS];

@@ -1,5 +1,5 @@
 //! Weights that the benchmark draws and adds up.
-ghost use Prim.Native.Nat.{ℕ, _^_, _≤_};
+ghost use Prim.Native.Nat.{_≤_};
 use walks::minutes::Minutes;
 use walks::minutes::MinutesWeight;
 use walks::plain_wait::PlainWait;
