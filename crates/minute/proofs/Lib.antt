@@ -1,0 +1,3 @@
+pub mod Arrays
+pub mod Plain
+pub mod Allowed

@@ -1,0 +1,6 @@
+pub mod Minutes
+pub mod Meets
+pub mod Orders
+pub mod Events
+pub mod Played
+pub mod Deciding

@@ -1,0 +1,3 @@
+//! One minute of a run: whether a kitchen can take part, what it ended, which orders are given, which spans start, and the list of events.
+pub mod allow;
+pub mod look;
