@@ -1,3 +1,4 @@
 pub mod Arrays
 pub mod Plain
 pub mod Allowed
+pub mod Hearing

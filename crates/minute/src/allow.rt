@@ -30,7 +30,7 @@ fn points_allow(
 {
     for p in 0..network.points() {
         let soon = soonest_of(minutes, late, t, p);
-        if i32::from(soon) - i32::from(t) > distance_of(closure, q, p) {
+        if soon as i32 - t as i32 > distance_of(closure, q, p) {
             return false;
         }
     }
@@ -51,11 +51,11 @@ fn spans_allow(
 {
     for s in 0..network.span_count() {
         let span = span_of(network, s);
-        let soon = soonest_of(minutes, late, t, usize::from(span.start));
-        if let Some(_) = minute_of(minutes, usize::from(span.finish)) {
+        let soon = soonest_of(minutes, late, t, span.start as usize);
+        if let Some(_) = minute_of(minutes, span.finish as usize) {
             continue;
         }
-        if i32::from(soon) - i32::from(t) > wait_of(closure, s, q) {
+        if soon as i32 - t as i32 > wait_of(closure, s, q) {
             return false;
         }
     }
@@ -96,7 +96,7 @@ pub fn can_hold(
         let Some(a) = minute_of(minutes, p) else {
             continue;
         };
-        if i32::from(t) - i32::from(a) >= distance_of(closure, p, q) {
+        if t as i32 - a as i32 >= distance_of(closure, p, q) {
             return false;
         }
     }

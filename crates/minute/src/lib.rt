@@ -1,3 +1,4 @@
 //! One minute of a run: whether a kitchen can take part, what it ended, which orders are given, which spans start, and the list of events.
 pub mod allow;
+pub mod decide;
 pub mod look;

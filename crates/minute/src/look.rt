@@ -1,7 +1,7 @@
 //! What is read off a card, its tables and a position, and the writes to a position.
 ghost use mathlib.Core.Path.{_≡_};
 ghost use Prim.Native.Nat.{_<_, _≤_};
-ghost use Rattle.rules.specs.Card.{spanCount};
+ghost use Rattle.rules.specs.Card.{spanCount, isFinish};
 ghost use Rattle.rules.specs.Game.{after, only, also};
 ghost use Rattle.network.specs.Model.{model};
 ghost use Rattle.judge.specs.Closures.{distance, wait};
@@ -75,4 +75,16 @@ pub fn soonest_of(minutes: &[Option<u16>; 32], late: &[bool; 32], t: u16, p: usi
         return a;
     }
     if is_marked(late, p) { t + 1 } else { t }
+}
+
+/// Which points are finishes.
+pub fn finishes(network: &Network) -> [bool; 32]
+    ensures { λ r. ⌜ marked r ≡ isFinish (model (now (network .entry) .content)) ⌝ }
+{
+    let mut marks = [false; 32];
+    for s in 0..network.span_count() {
+        let span = span_of(network, s);
+        set_mark(&mut marks, span.finish as usize);
+    }
+    marks
 }
