@@ -1,11 +1,11 @@
 -- The tests of one order are exact.
 use mathlib.Core.Path.{_≡_, refl, sym, ap, subst, _∙_, fun-ext}
-use mathlib.Core.Logic.{_⊎_, inl, inr, ⊎-elim, _↔_, _≢_}
+use mathlib.Core.Logic.{_⊎_, inl, inr, ⊎-elim, _≢_, ∥∥₁-elim}
 use mathlib.Core.Bool.{Bool, true, false, cond}
 use Prim.Native.Nat.{ℕ, suc, _+_, _-_, _≤_, _<_}
 use native.Mathlib.Omega.{arith}
 use native.Mathlib.Decide.{ℕ-discrete}
-use lib.Dec.{T}
+use lib.Dec.{T, eqb}
 use lib.IntN.{ℤ, pos, _+ℤ_}
 use lib.Signed.{_≤ℤ_}
 use Rattle.std.specs.declared.option.Option.{Option}
@@ -13,16 +13,18 @@ use Rattle.std.specs.declared.option.Option.the-variants.{Some, None}
 use Rattle.std.proofs.shelf.Signed.{ints}
 use Rattle.rules.specs.Card.{Card, WellMade, spanCount, startOf, finishOf, isFinish}
 use Rattle.rules.specs.Game.{Position, after, only, also, CanGive, CanHold}
-use Rattle.rules.specs.Tables.{Table, Fits, late}
+use Rattle.rules.specs.Tables.{Traced, Fits, late}
 use Rattle.rules.specs.Theorems.{ChoiceExact}
 use Rattle.rules.proofs.Flags.{so, so-back, not-so}
-use Rattle.rules.proofs.Basics.{clash, same, known-by, decide, late-cases, held-late}
+use Rattle.rules.proofs.Basics.{clash, same, known-by, decide, or-left, late-cases, held-late}
 use Rattle.rules.proofs.Closure.{Rulewise, rulewise}
 use Rattle.rules.proofs.Exact.{choices-exact}
+use Rattle.rules.proofs.Strategy.{fits-wins}
 use Rattle.rules.proofs.Locally.{Givable, fits-given, fits-held}
 use Rattle.judge.specs.declared.closure.Closure.{Closure}
-use Rattle.judge.specs.Closures.{distance, wait, Winning}
+use Rattle.judge.specs.Closures.{distance, wait}
 use Rattle.minute.specs.Deciding.{Within-minute, Open, soonest, PointsAllow, SpansAllow, HoldAllows}
+use Rattle.minute.proofs.Props.{fits-prop}
 
 soon-some : (t a : ℕ) (o : Option ℕ) (l : Bool) → o ≡ Some a → soonest t o l ≡ a
 soon-some t a (Some b) l e = same refl e
@@ -48,14 +50,8 @@ late-is card l has = fun-ext (λ p. by p (decide (l p)))
 
 module _ (card : Card) (made : WellMade card) (closure : Closure) (t : ℕ) (l : ℕ → Bool) (at : Position) (q : ℕ)
     (w : Within-minute card closure t l at) (o : Open card l at q) where
-  D : Table
-  D = distance closure
-
-  W : Table
-  W = wait closure
-
   c : Rulewise card (distance closure) (wait closure)
-  c = rulewise card (distance closure) (wait closure) made (w .winning .closed)
+  c = rulewise card (distance closure) (wait closure) made (w .tight .closed)
 
   is-late : late card l ≡ l
   is-late = late-is card l (w .finishes)
@@ -66,10 +62,23 @@ module _ (card : Card) (made : WellMade card) (closure : Closure) (t : ℕ) (l :
   pub fits : Fits card (distance closure) (wait closure) t (late card l) at
   fits = subst (λ x. Fits card (distance closure) (wait closure) t x at) (sym is-late) (w .fits)
 
-  pub exact : ChoiceExact card (distance closure) (wait closure) (card .horizon - t) t at l q
-  exact =
-      choices-exact card (distance closure) (wait closure) made (w .winning .closed) (w .winning .traced) (card .horizon - t) t at l q
+  -- what the choices are, if the entries' derivations are at hand
+  exact : Traced card (distance closure) (wait closure) → ChoiceExact card (distance closure) (wait closure) (card .horizon - t) t at l q
+  exact traced =
+      choices-exact card (distance closure) (wait closure) made (w .tight .closed) traced (card .horizon - t) t at l q
       (omega (arith, w .in-time)) fits (o .point) order (o .unhappened)
+
+  give-fits : CanGive card (card .horizon - t) t at l q → Fits card (distance closure) (wait closure) t (late card l) (after t (only q) at)
+  give-fits g = ∥∥₁-elim (w .tight .traced) (fits-prop card (distance closure) (wait closure) t (late card l) (after t (only q) at)) (λ traced. exact traced .give .0 g)
+
+  hold-fits : CanHold card (card .horizon - t) t at l q → Fits card (distance closure) (wait closure) t (late card (also l q)) at
+  hold-fits g = ∥∥₁-elim (w .tight .traced) (fits-prop card (distance closure) (wait closure) t (late card (also l q)) at) (λ traced. exact traced .hold .0 g)
+
+  fits-give : Fits card (distance closure) (wait closure) t (late card l) (after t (only q) at) → CanGive card (card .horizon - t) t at l q
+  fits-give f = fits-wins card (distance closure) (wait closure) made (w .tight .closed) (card .horizon - t) t (after t (only q) at) l (omega (arith, w .in-time)) f
+
+  fits-hold : Fits card (distance closure) (wait closure) t (late card (also l q)) at → CanHold card (card .horizon - t) t at l q
+  fits-hold f = fits-wins card (distance closure) (wait closure) made (w .tight .closed) (card .horizon - t) t at (also l q) (omega (arith, w .in-time)) f
 
   -- the earliest minute of any point that has not happened is t or the next
   from-now : (p : ℕ) → at p ≡ None → t ≤ soonest t (at p) (l p)
@@ -115,10 +124,10 @@ module _ (card : Card) (made : WellMade card) (closure : Closure) (t : ℕ) (l :
 
   pub give : PointsAllow (distance closure) t l at q (card .points) → SpansAllow card (wait closure) t l at q (spanCount card) → CanGive card (card .horizon - t) t at l q
   give ps ss =
-      exact .give .1 (fits-given card (distance closure) (wait closure) made (w .winning .closed) t l at q fits (o .point) order (o .unhappened) .1 (allowed ps ss))
+      fits-give (fits-given card (distance closure) (wait closure) made (w .tight .closed) t l at q fits (o .point) order (o .unhappened) .1 (allowed ps ss))
 
   given : CanGive card (card .horizon - t) t at l q → Givable card (distance closure) (wait closure) t l at q
-  given g = fits-given card (distance closure) (wait closure) made (w .winning .closed) t l at q fits (o .point) order (o .unhappened) .0 (exact .give .0 g)
+  given g = fits-given card (distance closure) (wait closure) made (w .tight .closed) t l at q fits (o .point) order (o .unhappened) .0 (give-fits g)
 
   pub points-given : CanGive card (card .horizon - t) t at l q → PointsAllow (distance closure) t l at q (card .points)
   points-given g = points-ok (given g)
@@ -128,9 +137,33 @@ module _ (card : Card) (made : WellMade card) (closure : Closure) (t : ℕ) (l :
 
   pub hold : HoldAllows (distance closure) t at q (card .points) → CanHold card (card .horizon - t) t at l q
   hold hs =
-      exact .hold .1 (fits-held card (distance closure) (wait closure) made (w .winning .closed) t l at q fits (o .point) order (o .unhappened) .1
+      fits-hold (fits-held card (distance closure) (wait closure) made (w .tight .closed) t l at q fits (o .point) order (o .unhappened) .1
       (λ p a h. hs p a (w .fits .point p a h) h))
 
   pub held-needs : CanHold card (card .horizon - t) t at l q → HoldAllows (distance closure) t at q (card .points)
   held-needs g p a lt h =
-      fits-held card (distance closure) (wait closure) made (w .winning .closed) t l at q fits (o .point) order (o .unhappened) .0 (exact .hold .0 g) p a h
+      fits-held card (distance closure) (wait closure) made (w .tight .closed) t l at q fits (o .point) order (o .unhappened) .0 (hold-fits g) p a h
+
+  -- what is decided fits again
+  pub gave-fits : CanGive card (card .horizon - t) t at l q → Within-minute card closure t l (after t (only q) at)
+  gave-fits g = record {
+    tight = w .tight;
+    in-time = w .in-time;
+    fits = subst (λ x. Fits card (distance closure) (wait closure) t x (after t (only q) at)) is-late (give-fits g);
+    finishes = w .finishes;
+  }
+
+  more-late : (p : ℕ) → T (isFinish card p) → T (also l q p)
+  unfolding also
+  more-late p h = or-left (l p) (eqb p q) (w .finishes p h)
+
+  pub held-fits : (CanGive card (card .horizon - t) t at l q → ⊥) → Within-minute card closure t (also l q) at
+  held-fits never = record {
+    tight = w .tight;
+    in-time = w .in-time;
+    fits = ∥∥₁-elim (w .tight .traced) (fits-prop card (distance closure) (wait closure) t (also l q) at) (λ traced. ⊎-elim
+        (λ x. absurd (never (fits-give x)))
+        (λ x. subst (λ y. Fits card (distance closure) (wait closure) t y at) (late-is card (also l q) more-late) x)
+        (exact traced .either));
+    finishes = more-late;
+  }

@@ -1,4 +1,9 @@
 pub mod Arrays
 pub mod Plain
+pub mod Props
 pub mod Allowed
 pub mod Hearing
+pub mod Deciding
+pub mod Meeting
+pub mod Starting
+pub mod Listing

@@ -12,11 +12,12 @@ use Rattle.rules.specs.Card.{Card, spanCount, startOf, finishOf, isFinish}
 use Rattle.rules.specs.Game.{Position, CanGive, after, only, also}
 use Rattle.rules.specs.Tables.{Table, Fits}
 use Rattle.judge.specs.declared.closure.Closure.{Closure}
-use Rattle.judge.specs.Closures.{distance, wait, Winning}
+use Rattle.judge.specs.Closures.{distance, wait}
+use Rattle.minute.specs.Standing.{Tight}
 
 -- the points of the set `late` can no longer happen in minute t; finishes are among them
 pub record Within-minute (card : Card) (closure : Closure) (t : ℕ) (late : ℕ → Bool) (at : Position) : Type 0 where
-  pub winning : Winning card closure
+  pub tight : Tight card closure
   pub in-time : t ≤ card .horizon
   pub fits : Fits card (distance closure) (wait closure) t late at
   pub finishes : (p : ℕ) → T (isFinish card p) → T (late p)

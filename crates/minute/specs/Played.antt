@@ -7,7 +7,7 @@ use Rattle.std.specs.declared.result.Result.{Result}
 use Rattle.std.specs.declared.result.Result.the-variants.{Ok}
 use Rattle.rules.specs.declared.refusal.Refusal.{Refusal}
 use Rattle.rules.specs.Card.{Card, spanCount, startOf, finishOf}
-use Rattle.rules.specs.Game.{Position, opening, heard, Win}
+use Rattle.rules.specs.Game.{Position, opening, heard, Win, Done}
 use Rattle.kitchen.specs.declared.track.Track.{Track}
 use Rattle.kitchen.specs.Tracks.{is-done}
 use Rattle.kitchen.specs.Kitchens.{Started, Advanced}
@@ -20,6 +20,9 @@ pub record Meaning (K : Type 0) : Type 1 where
   pub spans : K → List Track
   pub starts : K → ℕ → Result (Unit {0}) Refusal → K → Type 0
   pub advances : K → K → Type 0
+
+abbrev pub meaning : {K : Type 0} → (K → List Track) → (K → ℕ → Result (Unit {0}) Refusal → K → Type 0) → (K → K → Type 0) → Meaning K
+meaning spans starts advances = record { spans = spans; starts = starts; advances = advances }
 
 -- the kitchen has advanced, as its meaning says
 abbrev pub Advance : {K : Type 0} → Meaning K → K → K → Type 0
@@ -65,3 +68,5 @@ pub record Played {K : Type 0} (means : Meaning K) (card : Card) (t : ℕ) (at t
   -- the kitchen agrees then, and the controller can win
   pub agrees : Agrees card then (t + 1) (means .spans l)
   pub wins : Win card (card .horizon - t) (suc t) then
+  -- after the last minute every point has happened and every tie holds
+  pub done : t ≡ card .horizon → Done card then

@@ -3,8 +3,9 @@ ghost use Prim.Native.Nat.{suc, _≤_};
 ghost use Rattle.rules.specs.Game.{no-point};
 ghost use Rattle.rules.specs.Tables.{Fits, late as put-off};
 ghost use Rattle.network.specs.Model.{model};
-ghost use Rattle.judge.specs.Closures.{distance, wait, Winning};
+ghost use Rattle.judge.specs.Closures.{distance, wait};
 ghost use Rattle.minute.specs.Minutes.{at, marked};
+ghost use Rattle.minute.specs.Standing.{Tight};
 ghost use Rattle.minute.specs.Orders.{Ordered};
 ghost use Rattle.minute.specs.Deciding.{Within-minute, Open, Decided};
 use crate::allow::can_give;
@@ -39,7 +40,7 @@ fn decide(
 
 /// Goes through the orders that have not been given, in rising number.
 pub fn decide_all(network: &Network, closure: &Closure, minutes: &mut [Option<u16>; 32], t: u16)
-    requires wins { ⌜ Winning (model (now network .content)) (now closure) ⌝ }
+    requires tight { ⌜ Tight (model (now network .content)) (now closure) ⌝ }
     requires time { ⌜ t ≤ model (now network .content) .horizon ⌝ }
     requires fits { ⌜ Fits (model (now network .content)) (distance (now closure)) (wait (now closure)) t (put-off (model (now network .content)) no-point) (at (now minutes)) ⌝ }
     ensures fits { λ _. ⌜ Fits (model (now (network .entry) .content)) (distance (now (closure .entry))) (wait (now (closure .entry))) (suc t) no-point (at (now (minutes .exit))) ⌝ }
