@@ -7,3 +7,6 @@ pub mod Deciding
 pub mod Meeting
 pub mod Starting
 pub mod Listing
+pub mod Ending
+pub mod Middle
+pub mod After

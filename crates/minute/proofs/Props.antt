@@ -26,7 +26,7 @@ above-prop D W AllMost p q w x y = λ i. tt
 closed-prop : (card : Card) (D W : Table) → IsProp (Closed card D W)
 closed-prop card D W x y = λ i. record {
   given = λ {e} g. above-prop D W (e .kind) (e .source) (e .target) (e .weight) (x .given g) (y .given g) i;
-  made = λ {letter} {e} {f} {h} r a b. above-prop D W (h .kind) (h .source) (h .target) (h .weight) (x .made r a b) (y .made r a b) i;
+  made = λ {letter} {e} {f} {g} r a b. above-prop D W (g .kind) (g .source) (g .target) (g .weight) (x .made r a b) (y .made r a b) i;
 }
 
 sound-prop : (card : Card) (D W : Table) → IsProp (SoundAtStart card D W)

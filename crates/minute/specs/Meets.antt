@@ -42,3 +42,10 @@ Tells t (Some a) (Some c) (Done d) = a + d ≡ c
 -- A kitchen with these spans agrees with the position before minute t.
 abbrev pub Agrees : Card → Position → ℕ → List Track → Type 0
 Agrees card at t spans = (s : ℕ) → s < spanCount card → Tells t (at (startOf card s)) (at (finishOf card s)) (track-at spans s .status)
+
+-- Minute t can be played with a kitchen of these spans and a list of so many places.
+pub record Ready (card : Card) (t : ℕ) (at : Position) (spans : List Track) (places : ℕ) : Type 0 where
+  pub in-time : t ≤ card .horizon
+  pub room : 32 ≤ places
+  pub fits : FitsCard card spans
+  pub agrees : Agrees card at t spans

@@ -5,4 +5,5 @@ pub mod events;
 pub mod hear;
 pub mod look;
 pub mod meet;
+pub mod playing;
 pub mod starts;

@@ -25,14 +25,11 @@ loop-p-again-then-not-is-picked c =
 place : (c : need.Else-not-is-picked) → c .loop-p .k < 32
 place c =
     let P = picks (model (c .args .network .now .content)) (at (c .args .minutes .now)) (c .args .t) (c .args .finish) in
-    let h = has-place P (c .loop-p .p) (model (c .args .network .now .content) .points) (c .loop-p-test .taken) (sym (c .is-picked .ensures) ∙ c .if-not-is-picked .left) in
+    let h = has-place P (c .loop-p .p) (model (c .args .network .now .content) .points) (omega arith) (sym (c .is-picked .ensures) ∙ c .if-not-is-picked .left) in
     omega (arith, c .loop-p .inv .1, c .pre .room)
 
 pub index-list-k : need.index-list-k
 index-list-k c = omega (arith, place c)
-
-pub offset-list-k : need.offset-list-k
-offset-list-k c = omega (arith, place c)
 
 pub add-k : need.add-k
 add-k c = omega (arith, place c)

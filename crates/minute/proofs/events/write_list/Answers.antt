@@ -8,7 +8,6 @@ use Rattle.std.proofs.shelf.Lists.{length-append}
 use Rattle.minute.specs.Minutes.{at}
 use Rattle.network.specs.Model.{model}
 use Rattle.minute.specs.Events.{listed, picks, written}
-use Rattle.minute.proofs.Plain.{points-are}
 use Rattle.minute.proofs.Listing.{few, after-written}
 use Rattle.minute.proofs.events.write_list.Needs as need
 
@@ -31,8 +30,7 @@ returns c =
     let O = listed (picks k σ (c .args .t) false) n in
     let xs = c .args .list .now in
     let at-k : c .write-kind-k .result ≡ length F = omega (arith, c .write-kind-k .ensures .count) in
-    let all = ap (λ m. listed (picks k σ (c .args .t) true) m ++ listed (picks k σ (c .args .t) false) m) (sym (points-are (c .args .plan .now))) in
     record {
-      list = c .write-kind .ensures .list ∙ ap₂ (λ l k. written l k O) (c .write-kind-k .ensures .list) at-k ∙ after-written xs F O ∙ ap (written xs 0) all;
-      count = c .write-kind .ensures .count ∙ ap (λ k. k + length O) at-k ∙ sym (length-append F O) ∙ ap length all;
+      list = c .write-kind .ensures .list ∙ ap₂ (λ l k. written l k O) (c .write-kind-k .ensures .list) at-k ∙ after-written xs F O;
+      count = c .write-kind .ensures .count ∙ ap (λ k. k + length O) at-k ∙ sym (length-append F O);
     }

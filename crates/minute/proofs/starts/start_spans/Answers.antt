@@ -36,9 +36,9 @@ loop-s-again g c =
     let s = c .loop-s .s in
     let yes-new : new s ≡ true = ap (λ p. is-at (c .args .t) (at (c .args .minutes .now) p)) (sym (c .span-of-span .ensures .start)) ∙ sym (c .happens-at .ensures) ∙ c .if-not-happens-at .left in
     let cold = ap (λ x. x .status) (starts-beyond means new s k l (c .loop-s .inv) s (omega arith)) ∙ c .pre .cold s (omega arith) yes-new in
-    let ok = accepted (g .K·Kitchen .spans l) (g .K·Kitchen .spans (c .start .last .kitchen)) s (c .start .result) (omega (arith, starts-long means new s k l (c .loop-s .inv), c .pre .enough)) cold (c .start .ensures .rule) in
-    starts-one means new s k l (c .start .last .kitchen) (c .loop-s .inv) yes-new
-    (subst (λ r. Started (g .K·Kitchen .spans l) s r (g .K·Kitchen .spans (c .start .last .kitchen))) ok (c .start .ensures .rule), subst (λ r. g .K·Kitchen .starts l s r (c .start .last .kitchen)) ok (c .start .ensures .own))
+    let ok = accepted (g .K·Kitchen .spans l) (g .K·Kitchen .spans (c .start .last .self)) s (c .start .result) (omega (arith, starts-long means new s k l (c .loop-s .inv), c .pre .enough)) cold (c .start .ensures .rule) in
+    starts-one means new s k l (c .start .last .self) (c .loop-s .inv) yes-new
+    (subst (λ r. Started (g .K·Kitchen .spans l) s r (g .K·Kitchen .spans (c .start .last .self))) ok (c .start .ensures .rule), subst (λ r. g .K·Kitchen .starts l s r (c .start .last .self)) ok (c .start .ensures .own))
 
 pub returns : need.returns
 returns g c =
