@@ -1,0 +1,4 @@
+//! Running a closed card against a kitchen, minute by minute.
+pub mod begin;
+pub mod play;
+pub mod run;
