@@ -193,7 +193,7 @@ module _ (card : Card) (closure : Closure) (t : ℕ) (middle now : Position) (la
     fits = f;
     marks = fun-ext (λ r. ⊎-elim
         (λ e. subst (λ x. also lates q x ≡ late card (passed now (q + 1)) x) (sym e)
-            (so (itself-also lates q) ∙ sym (so (held-late card (passed now (q + 1)) q (so-back (passed-here now q ∙ ap is-none (o .unhappened)))))))
+        (so (itself-also lates q) ∙ sym (so (held-late card (passed now (q + 1)) q (so-back (passed-here now q ∙ ap is-none (o .unhappened)))))))
         (λ n. also-other lates q r n ∙ ap (λ l. l r) (d .marks) ∙ late-at card (passed now q) (passed now (q + 1)) r (sym (passed-more now q r n)))
         (cases-eq r q));
     rest = λ r le. d .rest r (omega arith);

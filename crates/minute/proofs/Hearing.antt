@@ -13,7 +13,7 @@ use Rattle.std.proofs.shelf.Tests.{eqb-true, eq-eqb, ne-eqb, cases-eq}
 use Rattle.rules.specs.Card.{Card, WellMade, spanCount, finishOf, anyBelow, finishAmong, isFinish}
 use Rattle.rules.specs.Game.{Position, settle, after, heard, only, also}
 use Rattle.rules.proofs.Flags.{so}
-use Rattle.rules.proofs.Basics.{ any-is, and-right, after-back, after-none}
+use Rattle.rules.proofs.Basics.{any-is, and-right, after-back, after-none}
 use Rattle.kitchen.specs.declared.track.Track.{Track}
 use Rattle.kitchen.specs.Tracks.{is-done}
 use Rattle.minute.specs.Minutes.{is-none}

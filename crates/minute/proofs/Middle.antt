@@ -196,5 +196,5 @@ midway means card made closure t places at mid k m st re ok h =
     let e : t ≡ 0 = omega arith in
     let x = h .first e in
     subst₂ (λ f l. Midway card closure t f (means .spans l)) (sym (x .0)) (sym (x .1))
-        (subst (λ n. Midway card closure n opening (means .spans k)) (sym e) (first-mid card made closure places at (means .spans k) (subst (λ n. Standing card closure n at) e st) (subst (λ n. Ready card n at (means .spans k) places) e re))))
+    (subst (λ n. Midway card closure n opening (means .spans k)) (sym e) (first-mid card made closure places at (means .spans k) (subst (λ n. Standing card closure n at) e st) (subst (λ n. Ready card n at (means .spans k) places) e re))))
     (cases-lt 0 t)

@@ -55,8 +55,8 @@ pub record Heard {K : Type 0} (means : Meaning K) (card : Card) (t : ℕ) (at mi
 unfoldable pub starting : Card → Position → ℕ → ℕ → Bool
 starting card then t s = is-at t (then (startOf card s))
 
--- Minute t is played: the position goes from `at` to `then`, and the kitchen from `k` to `l`.
-pub record Played {K : Type 0} (means : Meaning K) (card : Card) (t : ℕ) (at then : Position) (k l : K) : Type 0 where
+-- Minute t by the rules: the position goes from `at` to `then`, and the kitchen from `k` to `l`.
+pub record Minute {K : Type 0} (means : Meaning K) (card : Card) (t : ℕ) (at then : Position) (k l : K) : Type 0 where
   -- the kitchen moves, and the controller hears it
   pub middle : Position
   pub moved : K
@@ -65,7 +65,10 @@ pub record Played {K : Type 0} (means : Meaning K) (card : Card) (t : ℕ) (at t
   pub ordered : Ordered card t middle then
   -- the spans whose starts happen are started
   pub started : Starts means (starting card then t) (spanCount card) moved l
-  -- the kitchen agrees then, and the controller can win
+
+-- Minute t is played: it goes by the rules, and leaves a position from which the controller can win, and a kitchen that agrees.
+pub record Played {K : Type 0} (means : Meaning K) (card : Card) (t : ℕ) (at then : Position) (k l : K) : Type 0 where
+  pub rules : Minute means card t at then k l
   pub agrees : Agrees card then (t + 1) (means .spans l)
   pub wins : Win card (card .horizon - t) (suc t) then
   -- after the last minute every point has happened and every tie holds

@@ -9,13 +9,7 @@ use crate::starts::happens_at;
 use network::network::Network;
 
 /// Whether p happens in minute t, and is a finish or, if `finish` is false, an order.
-fn is_picked(
-    network: &Network,
-    minutes: &[Option<u16>; 32],
-    t: u16,
-    finish: bool,
-    p: usize,
-) -> bool
+fn is_picked(network: &Network, minutes: &[Option<u16>; 32], t: u16, finish: bool, p: usize) -> bool
     requires { ⌜ p < 32 ⌝ }
     ensures { λ r. ⌜ r ≡ picks (model (now (network .entry) .content)) (at (now (minutes .entry))) t finish p ⌝ }
 {

@@ -26,7 +26,7 @@ fn is_within<K: Kitchen>(kitchen: &K, s: usize, span: Span) -> bool
 }
 
 /// Whether the kitchen has the card's spans, each within the card's bounds.
-pub fn fits<K: Kitchen>(network: &Network, kitchen: &K) -> bool
+pub fn fits_card<K: Kitchen>(network: &Network, kitchen: &K) -> bool
     ensures { λ r. ⌜ Decides r (FitsCard (model (now (network .entry) .content)) (K·Kitchen .spans (now (kitchen .entry)))) ⌝ }
 {
     let count = network.span_count();

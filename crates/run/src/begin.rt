@@ -1,6 +1,9 @@
 //! The beginning and the end of a run, and what can be asked of it.
 ghost use mathlib.Core.Path.{_≡_};
+ghost use mathlib.Core.Bool.{true};
 ghost use Rattle.network.specs.Model.{model};
+ghost use Rattle.judge.specs.Closures.{Winning};
+ghost use Rattle.minute.specs.Minutes.{at, nothing-yet};
 ghost use Rattle.run.specs.Runs.{stage, Judged, Begun, asked};
 use crate::run::Run;
 use card::closed::ClosedCard;
@@ -15,6 +18,23 @@ const NO_CLOSURE: Closure = Closure {
 };
 
 impl Run {
+    /// A run of which no minute is played.
+    fn fresh(card: ClosedCard, live: bool, closure: Closure) -> Run
+        requires { ⌜ (live ≡ true → Winning (model (card .network .content)) closure) ⌝ }
+        ensures card { λ r. ⌜ r .card ≡ card ⌝ }
+        ensures live { λ r. ⌜ r .live ≡ live ⌝ }
+        ensures next { λ r. ⌜ r .next ≡ 0 ⌝ }
+        ensures nothing { λ r. ⌜ at (r .minutes) ≡ nothing-yet ⌝ }
+    {
+        Run {
+            card,
+            live,
+            closure,
+            next: 0,
+            minutes: [None; 32],
+        }
+    }
+
     /// A run of the card of which no minute is played, live if there are tables that win.
     pub fn started(card: ClosedCard, closure: Option<Closure>) -> Run
         requires { ⌜ Judged (model (card .network .content)) closure ⌝ }
@@ -22,20 +42,8 @@ impl Run {
         ensures begun { λ r. ⌜ Begun (model (card .network .content)) (stage r) ⌝ }
     {
         match closure {
-            Some(closure) => Run {
-                card,
-                live: true,
-                closure,
-                next: 0,
-                minutes: [None; 32],
-            },
-            None => Run {
-                card,
-                live: false,
-                closure: NO_CLOSURE,
-                next: 0,
-                minutes: [None; 32],
-            },
+            Some(closure) => Run::fresh(card, true, closure),
+            None => Run::fresh(card, false, NO_CLOSURE),
         }
     }
 

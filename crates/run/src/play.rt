@@ -12,7 +12,7 @@ ghost use Rattle.run.specs.Plays.{Fault, Accepted, Plays};
 use crate::run::Run;
 use kitchen::interface::Kitchen;
 use minute::meet::agrees;
-use minute::meet::fits;
+use minute::meet::fits_card;
 use minute::playing::play_minute;
 use rules::refusal::Refusal;
 
@@ -34,7 +34,7 @@ impl Run {
         if places < PLACES {
             return Some(Refusal::ShortBuffer);
         }
-        if !fits(network, kitchen) {
+        if !fits_card(network, kitchen) {
             return Some(Refusal::KitchenUnfit);
         }
         if !agrees(network, &self.minutes, self.next, kitchen) {
@@ -51,18 +51,21 @@ impl Run {
     {
         let t = self.next;
         let mut minutes = self.minutes;
-        let count = play_minute(self.card.network(), &self.closure, &mut minutes, t, kitchen, list);
+        let count = play_minute(
+            self.card.network(),
+            &self.closure,
+            &mut minutes,
+            t,
+            kitchen,
+            list,
+        );
         self.minutes = minutes;
         self.next = t + 1;
         count
     }
 
     /// Plays the next minute with a kitchen that fits and agrees, lists its events, and answers how many.
-    pub fn play<K: Kitchen>(
-        &mut self,
-        kitchen: &mut K,
-        list: &mut [u8],
-    ) -> Result<usize, Refusal>
+    pub fn play<K: Kitchen>(&mut self, kitchen: &mut K, list: &mut [u8]) -> Result<usize, Refusal>
         ensures { λ r. ⌜ Plays (meaning (K·Kitchen .spans) (K·Kitchen .starts) (K·Kitchen .advances)) (now (self .entry)) (now (self .exit)) (now (kitchen .entry)) (now (kitchen .exit)) (now (list .entry)) (now (list .exit)) r ⌝ }
     {
         match self.fault(kitchen, list.len()) {

@@ -42,11 +42,7 @@ returns g c =
     record {
       stands = stands-again card (well-made n) (c .args .closure .now) (c .args .t) mid then (g .K·Kitchen .spans k) m (c .decide-all .ensures .rule) (c .pre .stands .tight) (c .decide-all .ensures .fits);
       played = record {
-        middle = mid;
-        moved = k;
-        heard = c .hear-minute .ensures;
-        ordered = c .decide-all .ensures .rule;
-        started = c .start-spans .ensures;
+        rules = record { middle = mid; moved = k; heard = c .hear-minute .ensures; ordered = c .decide-all .ensures .rule; started = c .start-spans .ensures };
         agrees = agrees-again card (well-made n) (c .args .closure .now) (c .args .t) mid then (g .K·Kitchen .spans k) m (c .decide-all .ensures .rule) means k l refl (c .start-spans .ensures);
         wins = wins-then card (well-made n) (c .args .closure .now) (c .pre .stands .tight) (c .args .t) then (c .pre .ready .in-time) (c .decide-all .ensures .fits);
         done = λ e. done-then card (well-made n) (c .args .closure .now) (c .pre .stands .tight) (c .args .t) then e (c .decide-all .ensures .fits);

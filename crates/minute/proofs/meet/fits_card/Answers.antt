@@ -3,7 +3,7 @@ use mathlib.Core.Path.{refl, sym, subst₂}
 use native.Mathlib.Omega.{arith}
 use Rattle.std.proofs.shelf.Tests.{false≢true, both-ways}
 use Rattle.minute.specs.Meets.{Within, track-at}
-use Rattle.minute.proofs.meet.fits.Needs as need
+use Rattle.minute.proofs.meet.fits_card.Needs as need
 
 pub returns-then-count : need.returns-then-count
 returns-then-count g c = (λ e. absurd (false≢true e), λ k. absurd (omega (arith, k .enough, c .span-count-count .ensures, c .count .ensures)))
