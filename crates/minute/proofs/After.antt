@@ -22,7 +22,7 @@ use Rattle.judge.specs.declared.closure.Closure.{Closure}
 use Rattle.judge.specs.Closures.{distance, wait}
 use Rattle.minute.specs.Minutes.{is-at}
 use Rattle.minute.specs.Meets.{track-at, Tells, Agrees}
-use Rattle.minute.specs.Standing.{Tight, Standing}
+use Rattle.minute.specs.Standing.{Sensible, Tight, Standing}
 use Rattle.minute.specs.Orders.{Ordered}
 use Rattle.minute.specs.Played.{Meaning, Starts, starting}
 use Rattle.minute.proofs.Meeting.{tells-from}
@@ -30,8 +30,8 @@ use Rattle.minute.proofs.Ending.{cold-told}
 use Rattle.minute.proofs.Starting.{kindled, starts-each}
 use Rattle.minute.proofs.Middle.{Midway}
 
-module _ (card : Card) (made : WellMade card) (closure : Closure) (t : ℕ) (mid then : Position) (ms : List Track)
-    (m : Midway card closure t mid ms) (r : Ordered card t mid then) where
+module _ (card : Card) (made : WellMade card) (t : ℕ) (mid then : Position) (ms : List Track) (m : Midway card t mid ms)
+    (r : Ordered card t mid then) where
   finish-same : (s : ℕ) → s < spanCount card → then (finishOf card s) ≡ mid (finishOf card s)
   finish-same s lt = r .finishes (finishOf card s) (is-finish card s lt)
 
@@ -62,13 +62,18 @@ module _ (card : Card) (made : WellMade card) (closure : Closure) (t : ℕ) (mid
       (λ b. let z : a ≡ b .0 = same h (r .given p (b .0) (b .1)) in omega (arith, m .past p (b .0) (b .1)))
       (known-by (mid p))
 
-  pub stands-again : Tight card closure → Fits card (distance closure) (wait closure) (suc t) no-point then → Standing card closure (t + 1) then
-  stands-again tight f = record {
-    tight = tight;
+  pub sensible-again : Sensible card (t + 1) then
+  sensible-again = record {
     nothing = λ e. absurd (omega arith);
-    fits = λ _. subst (λ n. Fits card (distance closure) (wait closure) n no-point then) (sym (add-one t)) f;
     past = λ p a h. omega (arith, by-now p a h);
     begun = λ s lt h. finish-same s lt ∙ m .begun s lt (⊎-elim (λ n. n) (λ a. clash (r .given (startOf card s) (a .0) (a .1)) h) (known-by (mid (startOf card s))));
+  }
+
+  pub stands-again : (closure : Closure) → Tight card closure → Fits card (distance closure) (wait closure) (suc t) no-point then → Standing card closure (t + 1) then
+  stands-again closure tight f = record {
+    tight = tight;
+    sensible = sensible-again;
+    fits = λ _. subst (λ n. Fits card (distance closure) (wait closure) n no-point then) (sym (add-one t)) f;
   }
 
   module _ {K : Type 0} (means : Meaning K) (k l : K) (is : means .spans k ≡ ms) (begins : Starts means (starting card then t) (spanCount card) k l) where

@@ -10,3 +10,4 @@ pub mod Listing
 pub mod Ending
 pub mod Middle
 pub mod After
+pub mod Game

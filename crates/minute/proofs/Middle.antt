@@ -25,7 +25,7 @@ use Rattle.judge.specs.declared.closure.Closure.{Closure}
 use Rattle.judge.specs.Closures.{distance, wait}
 use Rattle.minute.specs.Minutes.{is-none, is-at}
 use Rattle.minute.specs.Meets.{track-at, Tells, Ready}
-use Rattle.minute.specs.Standing.{Standing}
+use Rattle.minute.specs.Standing.{Sensible, Standing}
 use Rattle.minute.specs.Played.{Meaning, ended, Heard}
 use Rattle.minute.proofs.Meeting.{tells-from}
 use Rattle.minute.proofs.Ending.{may-end, must-end, told-on, cold-told}
@@ -35,8 +35,7 @@ none-out None e = refl
 none-out (Some a) e = absurd e
 
 -- what is known once the finishes are heard
-pub record Midway (card : Card) (closure : Closure) (t : ℕ) (mid : Position) (spans : List Track) : Type 0 where
-  pub fits : Fits card (distance closure) (wait closure) t (late card no-point) mid
+pub record Midway (card : Card) (t : ℕ) (mid : Position) (spans : List Track) : Type 0 where
   pub past : (p a : ℕ) → mid p ≡ Some a → a ≤ t
   pub begun : (s : ℕ) → s < spanCount card → mid (startOf card s) ≡ None → mid (finishOf card s) ≡ None
   pub enough : spanCount card ≤ length spans
@@ -47,8 +46,8 @@ pub record Midway (card : Card) (closure : Closure) (t : ℕ) (mid : Position) (
 
 -- ---- later than minute 0
 
-module _ (card : Card) (made : WellMade card) (closure : Closure) (t places : ℕ) (at : Position) (ts ms : List Track)
-    (st : Standing card closure t at) (re : Ready card t at ts places) (adv : Advanced ts ms) (ok : LawfulSpans ms) where
+module _ (card : Card) (made : WellMade card) (t places : ℕ) (at : Position) (ts ms : List Track) (st : Sensible card t at)
+    (re : Ready card t at ts places) (adv : Advanced ts ms) (ok : LawfulSpans ms) where
   in-ts : (s : ℕ) → s < spanCount card → s < length ts
   in-ts s lt = omega (arith, re .fits .enough)
 
@@ -76,7 +75,7 @@ module _ (card : Card) (made : WellMade card) (closure : Closure) (t places : �
       (at (startOf card s)) (at (finishOf card s)) (track-at ts s .status) a (re .agrees s lt) (adv .each s (in-ts s lt) .status) h n e in
       and-both (is-done (track-at ms s .status)) (is-none (at (finishOf card s))) (so-back d) (so-back (ap is-none n))
 
-  law : Lawful card t at (ended card at ms)
+  pub law : Lawful card t at (ended card at ms)
   law = record {
     started = λ s lt e n. clash (may s lt e .1) n;
     unfinished = λ s lt e. unended s e;
@@ -133,9 +132,8 @@ module _ (card : Card) (made : WellMade card) (closure : Closure) (t places : �
     seen-now : Seen
     seen-now = ⊎-elim seen-cold (λ x. seen-on (x .0) (x .1)) (known-by (at (startOf card s)))
 
-  later-mid : 0 < t → Midway card closure t (heard card t (ended card at ms) at) ms
-  later-mid pos-t = record {
-    fits = kitchen-fits card (distance closure) (wait closure) made (st .tight .closed) t at (ended card at ms) (st .fits pos-t) law;
+  later-mid : Midway card t (heard card t (ended card at ms) at) ms
+  later-mid = record {
     past = λ p a h. ⊎-elim (λ x. omega (arith, st .past p a x)) (λ x. omega (arith, x .2)) (after-back t (finishAmong card (ended card at ms)) at p a h);
     begun = λ s lt h. not-ended s lt (after-none t (finishAmong card (ended card at ms)) at (startOf card s) h .0);
     enough = omega (arith, re .fits .enough, adv .long);
@@ -147,30 +145,27 @@ module _ (card : Card) (made : WellMade card) (closure : Closure) (t places : �
 pub opening-other : (p : ℕ) → p ≢ 0 → opening p ≡ None
 opening-other p n = ⊎-elim (λ e. e) (λ x. absurd (n (opening-is p (x .0) (x .1) .0))) (known-by (opening p))
 
-module _ (card : Card) (made : WellMade card) (closure : Closure) (places : ℕ) (at : Position) (ts : List Track)
-    (st : Standing card closure 0 at) (re : Ready card 0 at ts places) where
-  opening-law : Lawful card 0 opening no-point
-  opening-law = record {
-    started = λ s lt e n. e;
-    unfinished = λ s lt e. absurd e;
-    within = λ s a lt e h. absurd e;
-    forced = λ s a lt h n e. absurd (omega (arith, made .one-least s lt, made .least-most s lt));
-  }
+-- no span can end before it has started
+pub opening-law : (card : Card) → WellMade card → Lawful card 0 opening no-point
+opening-law card made = record {
+  started = λ s lt e n. e;
+  unfinished = λ s lt e. absurd e;
+  within = λ s a lt e h. absurd e;
+  forced = λ s a lt h n e. absurd (omega (arith, made .one-least s lt, made .least-most s lt));
+}
 
-  opening-fits : Fits card (distance closure) (wait closure) 0 (late card no-point) opening
-  opening-fits =
-      subst (Fits card (distance closure) (wait closure) 0 (late card no-point)) (after-nothing 0 (finishAmong card no-point) opening (λ p h. among-is card no-point p h .2))
-      (kitchen-fits card (distance closure) (wait closure) made (st .tight .closed) 0 opening no-point (start-fits card (distance closure) (wait closure) made (st .tight .sound)) opening-law)
+pub none-heard : (card : Card) → heard card 0 no-point opening ≡ opening
+none-heard card = after-nothing 0 (finishAmong card no-point) opening (λ p h. among-is card no-point p h .2)
 
+module _ (card : Card) (made : WellMade card) (places : ℕ) (at : Position) (ts : List Track) (st : Sensible card 0 at) (re : Ready card 0 at ts places) where
   cold : (s : ℕ) → s < spanCount card → track-at ts s .status ≡ Cold
   cold s lt = cold-told 0 (at (startOf card s)) (at (finishOf card s)) (track-at ts s .status) (st .nothing refl (startOf card s)) (re .agrees s lt)
 
   no-finish : (s : ℕ) → s < spanCount card → opening (finishOf card s) ≡ None
   no-finish s lt = opening-other (finishOf card s) (λ e. absurd (omega (arith, made .finish-later s lt)))
 
-  first-mid : Midway card closure 0 opening ts
+  first-mid : Midway card 0 opening ts
   first-mid = record {
-    fits = opening-fits;
     past = λ p a h. omega (arith, opening-is p a h .1);
     begun = λ s lt h. no-finish s lt;
     enough = re .fits .enough;
@@ -187,14 +182,30 @@ opened at empty = fun-ext (λ p. ⊎-elim
     (cases-eq p 0))
 
 -- either way
-pub midway : {K : Type 0} (means : Meaning K) (card : Card) → WellMade card → (closure : Closure) (t places : ℕ) (at mid : Position) (k m : K)
-    → Standing card closure t at → Ready card t at (means .spans k) places → LawfulSpans (means .spans m) → Heard means card t at mid k m → Midway card closure t mid (means .spans m)
-midway means card made closure t places at mid k m st re ok h =
+pub midway : {K : Type 0} (means : Meaning K) (card : Card) → WellMade card → (t places : ℕ) (at mid : Position) (k m : K)
+    → Sensible card t at → Ready card t at (means .spans k) places → LawfulSpans (means .spans m) → Heard means card t at mid k m → Midway card t mid (means .spans m)
+midway means card made t places at mid k m st re ok h =
     ⊎-elim
-    (λ lt. let x = h .later lt in subst (λ f. Midway card closure t f (means .spans m)) (sym (x .1)) (later-mid card made closure t places at (means .spans k) (means .spans m) st re (x .0 .0) ok lt))
+    (λ lt. let x = h .later lt in subst (λ f. Midway card t f (means .spans m)) (sym (x .1)) (later-mid card made t places at (means .spans k) (means .spans m) st re (x .0 .0) ok))
     (λ le.
     let e : t ≡ 0 = omega arith in
     let x = h .first e in
-    subst₂ (λ f l. Midway card closure t f (means .spans l)) (sym (x .0)) (sym (x .1))
-    (subst (λ n. Midway card closure n opening (means .spans k)) (sym e) (first-mid card made closure places at (means .spans k) (subst (λ n. Standing card closure n at) e st) (subst (λ n. Ready card n at (means .spans k) places) e re))))
+    subst₂ (λ f l. Midway card t f (means .spans l)) (sym (x .0)) (sym (x .1))
+        (subst (λ n. Midway card n opening (means .spans k)) (sym e) (first-mid card made places at (means .spans k) (subst (λ n. Sensible card n at) e st) (subst (λ n. Ready card n at (means .spans k) places) e re))))
+    (cases-lt 0 t)
+
+-- and the position fits the tables
+pub mid-fits : {K : Type 0} (means : Meaning K) (card : Card) → WellMade card → (closure : Closure) (t places : ℕ) (at mid : Position) (k m : K)
+    → Standing card closure t at → Ready card t at (means .spans k) places → LawfulSpans (means .spans m) → Heard means card t at mid k m
+    → Fits card (distance closure) (wait closure) t (late card no-point) mid
+mid-fits means card made closure t places at mid k m st re ok h =
+    ⊎-elim
+    (λ lt.
+    let x = h .later lt in
+    subst (Fits card (distance closure) (wait closure) t (late card no-point)) (sym (x .1))
+        (kitchen-fits card (distance closure) (wait closure) made (st .tight .closed) t at (ended card at (means .spans m)) (st .fits lt) (law card made t places at (means .spans k) (means .spans m) (st .sensible) re (x .0 .0) ok)))
+    (λ le.
+    let e : t ≡ 0 = omega arith in
+    subst₂ (λ n f. Fits card (distance closure) (wait closure) n (late card no-point) f) (sym e) (none-heard card ∙ sym (h .first e .0))
+        (kitchen-fits card (distance closure) (wait closure) made (st .tight .closed) 0 opening no-point (start-fits card (distance closure) (wait closure) made (st .tight .sound)) (opening-law card made)))
     (cases-lt 0 t)

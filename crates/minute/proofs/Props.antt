@@ -15,7 +15,7 @@ use Rattle.rules.specs.Tables.{Table, AboveAt, Closed, SoundAtStart, Fits}
 use Rattle.rules.proofs.Basics.{option-set}
 use Rattle.judge.specs.declared.closure.Closure.{Closure}
 use Rattle.judge.specs.Closures.{distance, wait}
-use Rattle.minute.specs.Standing.{Tight, Standing}
+use Rattle.minute.specs.Standing.{Sensible, Tight, Standing}
 
 above-prop : (D W : Table) (k : Kind) (p q : ℕ) (w : ℤ) → IsProp (AboveAt D W k p q w)
 above-prop D W Plain p q w x y = ≤ℤ-prop x y
@@ -55,11 +55,16 @@ tight-prop card closure x y = λ i. record {
   sound = sound-prop card (distance closure) (wait closure) (x .sound) (y .sound) i;
 }
 
+sensible-prop : (card : Card) (t : ℕ) (at : Position) → IsProp (Sensible card t at)
+sensible-prop card t at x y = λ i. record {
+  nothing = λ e p. option-set (at p) None (x .nothing e p) (y .nothing e p) i;
+  past = λ p a h. le-prop (x .past p a h) (y .past p a h) i;
+  begun = λ s h e. option-set (at (finishOf card s)) None (x .begun s h e) (y .begun s h e) i;
+}
+
 pub standing-prop : (card : Card) (closure : Closure) (t : ℕ) (at : Position) → IsProp (Standing card closure t at)
 standing-prop card closure t at x y = λ i. record {
   tight = tight-prop card closure (x .tight) (y .tight) i;
-  nothing = λ e p. option-set (at p) None (x .nothing e p) (y .nothing e p) i;
+  sensible = sensible-prop card t at (x .sensible) (y .sensible) i;
   fits = λ h. fits-prop card (distance closure) (wait closure) t no-point at (x .fits h) (y .fits h) i;
-  past = λ p a h. le-prop (x .past p a h) (y .past p a h) i;
-  begun = λ s h e. option-set (at (finishOf card s)) None (x .begun s h e) (y .begun s h e) i;
 }

@@ -39,7 +39,12 @@ fn decide(
 }
 
 /// Goes through the orders that have not been given, in rising number.
-pub fn decide_all(network: &Network, closure: &Closure, minutes: &mut [Option<u16>; 32], t: u16)
+pub(crate) fn decide_all(
+    network: &Network,
+    closure: &Closure,
+    minutes: &mut [Option<u16>; 32],
+    t: u16,
+)
     requires tight { ⌜ Tight (model (now network .content)) (now closure) ⌝ }
     requires time { ⌜ t ≤ model (now network .content) .horizon ⌝ }
     requires fits { ⌜ Fits (model (now network .content)) (distance (now closure)) (wait (now closure)) t (put-off (model (now network .content)) no-point) (at (now minutes)) ⌝ }

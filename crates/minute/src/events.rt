@@ -49,7 +49,12 @@ fn write_kind(
 }
 
 /// Writes the events of minute t, finishes first, and answers how many.
-pub fn write_list(network: &Network, minutes: &[Option<u16>; 32], t: u16, list: &mut [u8]) -> usize
+pub(crate) fn write_list(
+    network: &Network,
+    minutes: &[Option<u16>; 32],
+    t: u16,
+    list: &mut [u8],
+) -> usize
     requires { ⌜ 32 ≤ length (now list) ⌝ }
     ensures list { λ _. ⌜ now (list .exit) ≡ written (now (list .entry)) 0 (listing (model (now (network .entry) .content)) (at (now (minutes .entry))) t) ⌝ }
     ensures count { λ r. ⌜ r ≡ length (listing (model (now (network .entry) .content)) (at (now (minutes .entry))) t) ⌝ }

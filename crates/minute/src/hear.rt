@@ -29,7 +29,12 @@ fn has_ended<K: Kitchen>(kitchen: &K, s: usize) -> bool
 }
 
 /// Records the finishes of the spans that the kitchen has ended.
-pub fn hear<K: Kitchen>(network: &Network, minutes: &mut [Option<u16>; 32], t: u16, kitchen: &K)
+pub(crate) fn hear<K: Kitchen>(
+    network: &Network,
+    minutes: &mut [Option<u16>; 32],
+    t: u16,
+    kitchen: &K,
+)
     requires { ⌜ spanCount (model (now network .content)) ≤ length (K·Kitchen .spans (now kitchen)) ⌝ }
     ensures { λ _. ⌜ at (now (minutes .exit)) ≡ heard (model (now (network .entry) .content)) t (ended (model (now (network .entry) .content)) (at (now (minutes .entry))) (K·Kitchen .spans (now (kitchen .entry)))) (at (now (minutes .entry))) ⌝ }
 {

@@ -13,7 +13,7 @@ use network::network::Network;
 use rules::parts::Span;
 
 /// Span s of the card.
-pub fn span_of(network: &Network, s: usize) -> Span
+pub(crate) fn span_of(network: &Network, s: usize) -> Span
     requires { ⌜ s < spanCount (model (now network .content)) ⌝ }
     ensures { λ r. ⌜ SpanIs (model (now (network .entry) .content)) s r ⌝ }
 {
@@ -21,7 +21,7 @@ pub fn span_of(network: &Network, s: usize) -> Span
 }
 
 /// The distance from p to q.
-pub fn distance_of(closure: &Closure, p: usize, q: usize) -> i32
+pub(crate) fn distance_of(closure: &Closure, p: usize, q: usize) -> i32
     requires { ⌜ p < 32 ⌝ ∗ ⌜ q < 32 ⌝ }
     ensures { λ r. ⌜ r ≡ distance (now (closure .entry)) p q ⌝ }
 {
@@ -29,7 +29,7 @@ pub fn distance_of(closure: &Closure, p: usize, q: usize) -> i32
 }
 
 /// The wait of span s from p to its start.
-pub fn wait_of(closure: &Closure, s: usize, p: usize) -> i32
+pub(crate) fn wait_of(closure: &Closure, s: usize, p: usize) -> i32
     requires { ⌜ s < 8 ⌝ ∗ ⌜ p < 32 ⌝ }
     ensures { λ r. ⌜ r ≡ wait (now (closure .entry)) s p ⌝ }
 {
@@ -45,21 +45,21 @@ pub fn minute_of(minutes: &[Option<u16>; 32], p: usize) -> Option<u16>
 }
 
 /// The point p, which has not happened, happens in minute t.
-pub fn set_minute(minutes: &mut [Option<u16>; 32], p: usize, t: u16)
+pub(crate) fn set_minute(minutes: &mut [Option<u16>; 32], p: usize, t: u16)
     requires { ⌜ p < 32 ⌝ ∗ ⌜ at (now minutes) p ≡ Nothing ⌝ }
     ensures { λ _. ⌜ at (now (minutes .exit)) ≡ after t (only p) (at (now (minutes .entry))) ⌝ }
 {
     minutes[p] = Some(t);
 }
 
-pub fn is_marked(marks: &[bool; 32], p: usize) -> bool
+pub(crate) fn is_marked(marks: &[bool; 32], p: usize) -> bool
     requires { ⌜ p < 32 ⌝ }
     ensures { λ r. ⌜ r ≡ marked (now (marks .entry)) p ⌝ }
 {
     marks[p]
 }
 
-pub fn set_mark(marks: &mut [bool; 32], p: usize)
+pub(crate) fn set_mark(marks: &mut [bool; 32], p: usize)
     requires { ⌜ p < 32 ⌝ }
     ensures { λ _. ⌜ marked (now (marks .exit)) ≡ also (marked (now (marks .entry))) p ⌝ }
 {
@@ -67,7 +67,7 @@ pub fn set_mark(marks: &mut [bool; 32], p: usize)
 }
 
 /// The minute of a point, or the first in which it still may happen.
-pub fn soonest_of(minutes: &[Option<u16>; 32], late: &[bool; 32], t: u16, p: usize) -> u16
+pub(crate) fn soonest_of(minutes: &[Option<u16>; 32], late: &[bool; 32], t: u16, p: usize) -> u16
     requires { ⌜ p < 32 ⌝ ∗ ⌜ t ≤ 1440 ⌝ }
     ensures { λ r. ⌜ r ≡ soonest t (at (now (minutes .entry)) p) (marked (now (late .entry)) p) ⌝ }
 {
@@ -78,7 +78,7 @@ pub fn soonest_of(minutes: &[Option<u16>; 32], late: &[bool; 32], t: u16, p: usi
 }
 
 /// Which points are finishes.
-pub fn finishes(network: &Network) -> [bool; 32]
+pub(crate) fn finishes(network: &Network) -> [bool; 32]
     ensures { λ r. ⌜ marked r ≡ isFinish (model (now (network .entry) .content)) ⌝ }
 {
     let mut marks = [false; 32];

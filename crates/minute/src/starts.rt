@@ -15,7 +15,7 @@ use kitchen::interface::Kitchen;
 use network::network::Network;
 
 /// Whether the point p happens in minute t.
-pub fn happens_at(minutes: &[Option<u16>; 32], p: usize, t: u16) -> bool
+pub(crate) fn happens_at(minutes: &[Option<u16>; 32], p: usize, t: u16) -> bool
     requires { ⌜ p < 32 ⌝ }
     ensures { λ r. ⌜ r ≡ is-at t (at (now (minutes .entry)) p) ⌝ }
 {
@@ -26,7 +26,7 @@ pub fn happens_at(minutes: &[Option<u16>; 32], p: usize, t: u16) -> bool
 }
 
 /// Starts the spans whose start happens in minute t.
-pub fn start_spans<K: Kitchen>(
+pub(crate) fn start_spans<K: Kitchen>(
     network: &Network,
     minutes: &[Option<u16>; 32],
     t: u16,

@@ -13,20 +13,25 @@ use Rattle.network.specs.Model.{model}
 use Rattle.judge.specs.declared.closure.Closure.{Closure}
 use Rattle.judge.specs.Closures.{distance, wait, Winning}
 use Rattle.minute.specs.Minutes.{at, nothing-yet}
-use Rattle.minute.specs.Standing.{Standing}
+use Rattle.minute.specs.Standing.{Sensible, Standing}
 use Rattle.minute.proofs.Props.{standing-prop}
 use Rattle.run.specs.declared.run.Run.{Run}
 
 pub standing : (r : Run) → r .live ≡ true → Standing (model (r .card .network .content)) (r .closure) (r .next) (at (r .minutes))
 standing r e = ∥∥₁-elim (r .ok) (standing-prop (model (r .card .network .content)) (r .closure) (r .next) (at (r .minutes))) (λ x. x e)
 
+pub sensible-first : (card : Card) (at : Position) → at ≡ nothing-yet → Sensible card 0 at
+sensible-first card at e = record {
+  nothing = λ _ p. ap (λ f. f p) e;
+  past = λ p a h. clash h (ap (λ f. f p) e);
+  begun = λ s lt h. ap (λ f. f (finishOf card s)) e;
+}
+
 pub stands-first : (card : Card) (closure : Closure) (at : Position) → Winning card closure → at ≡ nothing-yet → Standing card closure 0 at
 stands-first card closure at w e = record {
   tight = record { closed = w .closed; traced = ∣ w .traced ∣₁; sound = w .sound };
-  nothing = λ _ p. ap (λ f. f p) e;
+  sensible = sensible-first card at e;
   fits = λ lt. absurd (omega arith);
-  past = λ p a h. clash h (ap (λ f. f p) e);
-  begun = λ s lt h. ap (λ f. f (finishOf card s)) e;
 }
 
 pub good : (card : Card) (closure : Closure) → WellMade card → Winning card closure → Good card
