@@ -2,3 +2,4 @@
 pub mod begin;
 pub mod play;
 pub mod run;
+pub mod whole;
