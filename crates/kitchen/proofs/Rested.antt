@@ -1,11 +1,11 @@
 -- What a rest keeps, and how a resting kitchen tells what lies below it.
 use mathlib.Core.Path.{_≡_, refl, ap, sym, subst, _∙_}
 use mathlib.Core.Logic.{_⊎_, inl, inr, ⊎-elim}
-use mathlib.Core.Bool.{Bool, true, false, cond}
+use mathlib.Core.Bool.{true, cond}
 use mathlib.Core.List.{List, [], _∷_, _++_}
 use Prim.Native.Nat.{ℕ, suc, zero, _+_, _-_, _<_, _≤_, min}
 use native.Mathlib.Omega.{arith}
-use lib.ListN.{length, getD, take, drop, set, replicate}
+use lib.ListN.{length, getD, drop, set, replicate}
 use lib.Seq.{getD-drop}
 use Rattle.std.specs.declared.result.Result.{Result}
 use Rattle.std.specs.declared.result.Result.the-variants.{Ok, Err}
@@ -16,7 +16,7 @@ use Rattle.rules.specs.declared.refusal.Refusal.{Refusal}
 use Rattle.kitchen.specs.declared.track.Track.{Track}
 use Rattle.kitchen.specs.declared.track.Status.{Status}
 use Rattle.kitchen.specs.declared.track.Status.the-variants.{Cold, On, Done}
-use Rattle.kitchen.specs.Tracks.{no-track, fit, within, is-done, elapsed}
+use Rattle.kitchen.specs.Tracks.{no-track, fit, within, elapsed}
 use Rattle.kitchen.specs.Kitchens.{Lawful, Bounds, Tells, Started, begun, Next, Stepped, Advanced}
 use Rattle.kitchen.specs.Rests.{rest-for, told-status, told, rested, count-next, Counted, first-eight}
 use Rattle.kitchen.proofs.Parts.{parts, whole}

@@ -14,6 +14,7 @@ use Rattle.rules.specs.declared.refusal.Refusal.the-variants.{SpansFull, Bounds
 use Rattle.kitchen.specs.declared.track.Track.{Track}
 use Rattle.kitchen.specs.Tracks.{in-range, cold}
 
+-- all of these bounds are lawful
 abbrev pub all-in-range : List (ℕ × ℕ) → Bool
 all-in-range [] = true
 all-in-range (b ∷ bs) = in-range b && all-in-range bs

@@ -1,4 +1,4 @@
-//! A contrary kitchen: it ends spans just after a start, when that is least welcome.
+//! A contrary kitchen: just after a start it ends spans as early as it may, otherwise as late as it may.
 ghost use mathlib.Core.Path.{_≡_};
 ghost use mathlib.Core.Bool.{false};
 ghost use mathlib.Core.List.{map};

@@ -16,10 +16,10 @@ pub trait Kitchen {
     // The spans with their bounds, and how far each is.
     ghost spans: { Self → List Track };
 
-    // What a start, by its span and its answer, makes of the whole kitchen, where the rule of `spans` leaves it open.
+    // What a start, by its span and its answer, makes of this kitchen beside what every kitchen owes.
     ghost starts: { Self → ℕ → Result (Unit {0}) Refusal → Self → Type 0 };
 
-    // What an advance makes of the whole kitchen: which spans end, where the rule of `spans` leaves it open.
+    // What an advance makes of this kitchen beside what every kitchen owes: which spans end early.
     ghost advances: { Self → Self → Type 0 };
 
     // At most eight spans, with bounds and statuses within their ranges.
@@ -37,7 +37,7 @@ pub trait Kitchen {
     fn status(&self, span: usize) -> Result<Status, Refusal>
         ensures { λ r. ⌜ Tells (spans (now (self .entry))) span r ⌝ };
 
-    /// Starts a cold span.
+    /// Starts a cold span. `rule` is what every kitchen owes, `own` what this one does.
     fn start(&mut self, span: usize) -> Result<(), Refusal>
         ensures rule { λ r. ⌜ Started (spans (now (self .entry))) span r (spans (now (self .exit))) ⌝ }
         ensures own { λ r. ⌜ starts (now (self .entry)) span r (now (self .exit)) ⌝ };

@@ -1,6 +1,6 @@
 //! A kitchen of noted durations: each span takes just as long as it says.
 ghost use mathlib.Core.Path.{_≡_};
-ghost use mathlib.Core.Bool.{true, false};
+ghost use mathlib.Core.Bool.{false};
 ghost use mathlib.Core.List.{map};
 ghost use Rattle.kitchen.specs.Tracks.{cold};
 ghost use Rattle.kitchen.specs.Endings.{next-track};
@@ -37,6 +37,7 @@ impl Noted {
 pub impl Kitchen for Noted as NotedKitchen {
     ghost spans = { λ k. row-spans (k .row) };
 
+    // The spans are all that there is.
     ghost starts = { λ _ _ _ _. Unit {0} };
 
     // A span ends at its duration.

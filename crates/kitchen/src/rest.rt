@@ -32,6 +32,7 @@ pub fn told(status: Status, rest: u16, count: u16) -> Status
     }
 }
 
+/// The rest given for a span, 0 if none is.
 fn rest_at(rests: &[u16], span: usize) -> u16
     ensures { λ r. ⌜ r ≡ getD (now (rests .entry)) span 0 ⌝ }
 {

@@ -14,6 +14,7 @@ use crate::track::Status;
 use crate::track::Track;
 use rules::refusal::Refusal;
 
+/// One minute more for each of these spans.
 fn advance_all(tracks: &mut [Track], early: bool)
     requires { ⌜ AllFit (now tracks) (length (now tracks)) ⌝ }
     ensures { λ _. ⌜ now (tracks .exit) ≡ map (next-track early) (now (tracks .entry)) ⌝ }
@@ -56,12 +57,14 @@ impl Row {
         Ok(())
     }
 
+    /// How many spans there are.
     pub fn len(&self) -> usize
         ensures { λ r. ⌜ r ≡ length (row-spans (now (self .entry))) ⌝ }
     {
         self.count
     }
 
+    /// The least and the most of a span.
     pub fn bounds(&self, span: usize) -> Result<(u16, u16), Refusal>
         ensures { λ r. ⌜ Bounds (row-spans (now (self .entry))) span r ⌝ }
     {
@@ -72,6 +75,7 @@ impl Row {
         Ok((track.least, track.most))
     }
 
+    /// How far a span is.
     pub fn status(&self, span: usize) -> Result<Status, Refusal>
         ensures { λ r. ⌜ Tells (row-spans (now (self .entry))) span r ⌝ }
     {
@@ -81,6 +85,7 @@ impl Row {
         Ok(self.tracks[span].status)
     }
 
+    /// Starts a cold span.
     pub fn start(&mut self, span: usize) -> Result<(), Refusal>
         ensures { λ r. ⌜ Started (row-spans (now (self .entry))) span r (row-spans (now (self .exit))) ⌝ }
     {

@@ -20,7 +20,7 @@ impl Status {
 
 impl Track {
     /// One minute more: a span that is on ends if it must and, where `early` is set, if it may.
-    pub fn advance(&mut self, early: bool)
+    pub(crate) fn advance(&mut self, early: bool)
         requires { ⌜ fit (now self) ≡ true ⌝ }
         ensures { λ _. ⌜ now (self .exit) ≡ next-track early (now (self .entry)) ⌝ }
     {

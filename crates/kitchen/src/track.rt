@@ -12,7 +12,7 @@ pub enum Status {
 }
 
 /// The bounds of a span in minutes, and its status.
-#[derive(Clone, Copy, PartialEq, Eq, Debug)]
+#[derive(Clone, Copy)]
 pub struct Track {
     pub least: u16,
     pub most: u16,

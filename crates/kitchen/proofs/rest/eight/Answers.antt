@@ -1,12 +1,7 @@
-use mathlib.Core.Path.{_≡_, ap, sym, _∙_}
-use mathlib.Core.Logic.{⊎-elim}
-use mathlib.Core.List.{List, _++_}
-use Prim.Native.Nat.{ℕ, _+_, _-_, _<_, _≤_}
+use mathlib.Core.Path.{sym, _∙_}
+use Prim.Native.Nat.{_-_, _<_}
 use native.Mathlib.Omega.{arith}
-use lib.ListN.{length, getD, take, replicate}
-use Rattle.std.proofs.shelf.Tests.{cases-lt}
-use Rattle.std.proofs.shelf.Lists.{ext-getD, length-take-le, length-append, length-replicate, getD-take, getD-append-left, getD-append-right, getD-replicate, getD-past}
-use Rattle.kitchen.specs.Rests.{first-eight}
+use Rattle.std.proofs.shelf.Lists.{ext-getD}
 use Rattle.kitchen.proofs.Rested.{first-long, first-at}
 use Rattle.kitchen.proofs.rest.eight.Needs as need
 

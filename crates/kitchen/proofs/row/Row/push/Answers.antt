@@ -1,11 +1,11 @@
 use mathlib.Core.Path.{_≡_}
 use mathlib.Core.Bool.{true}
 use native.Mathlib.Omega.{arith}
-use Prim.Native.Nat.{_<_, _≤_}
-use lib.ListN.{length, length-set}
+use Prim.Native.Nat.{_<_}
+use lib.ListN.{length-set}
 use Rattle.std.proofs.shelf.Lists.{take-more-set}
 use Rattle.std.proofs.shelf.Ways.{tells}
-use Rattle.kitchen.specs.Tracks.{in-range, fit, cold}
+use Rattle.kitchen.specs.Tracks.{fit, cold}
 use Rattle.kitchen.proofs.Views.{spans-long}
 use Rattle.kitchen.proofs.Made.{fit-more}
 use Rattle.kitchen.proofs.row.Row.push.Needs as need
