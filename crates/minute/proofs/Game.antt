@@ -71,7 +71,7 @@ module _ (card : Card) (t : ℕ) (middle then : Position) (o : Ordered card t mi
         same : (p : ℕ) → after t (only q) (decided middle then q) p ≡ decided middle then (q + 1) p
         same p = ⊎-elim
             (λ s. subst (λ x. after t (only q) (decided middle then q) x ≡ decided middle then (q + 1) x) (sym s)
-                (after-new t (only q) (decided middle then q) q (is-only q q refl) (from q q (omega arith) ∙ n) ∙ sym (before (q + 1) q (omega arith) ∙ e)))
+            (after-new t (only q) (decided middle then q) q (is-only q q refl) (from q q (omega arith) ∙ n) ∙ sym (before (q + 1) q (omega arith) ∙ e)))
             (λ d. after-not t (only q) (decided middle then q) p (λ h. d (only-is q p h)) ∙ sym (other q p d))
             (cases-eq p q)
 

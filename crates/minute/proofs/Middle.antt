@@ -191,7 +191,7 @@ midway means card made t places at mid k m st re ok h =
     let e : t ≡ 0 = omega arith in
     let x = h .first e in
     subst₂ (λ f l. Midway card t f (means .spans l)) (sym (x .0)) (sym (x .1))
-        (subst (λ n. Midway card n opening (means .spans k)) (sym e) (first-mid card made places at (means .spans k) (subst (λ n. Sensible card n at) e st) (subst (λ n. Ready card n at (means .spans k) places) e re))))
+    (subst (λ n. Midway card n opening (means .spans k)) (sym e) (first-mid card made places at (means .spans k) (subst (λ n. Sensible card n at) e st) (subst (λ n. Ready card n at (means .spans k) places) e re))))
     (cases-lt 0 t)
 
 -- and the position fits the tables
@@ -203,9 +203,9 @@ mid-fits means card made closure t places at mid k m st re ok h =
     (λ lt.
     let x = h .later lt in
     subst (Fits card (distance closure) (wait closure) t (late card no-point)) (sym (x .1))
-        (kitchen-fits card (distance closure) (wait closure) made (st .tight .closed) t at (ended card at (means .spans m)) (st .fits lt) (law card made t places at (means .spans k) (means .spans m) (st .sensible) re (x .0 .0) ok)))
+    (kitchen-fits card (distance closure) (wait closure) made (st .tight .closed) t at (ended card at (means .spans m)) (st .fits lt) (law card made t places at (means .spans k) (means .spans m) (st .sensible) re (x .0 .0) ok)))
     (λ le.
     let e : t ≡ 0 = omega arith in
     subst₂ (λ n f. Fits card (distance closure) (wait closure) n (late card no-point) f) (sym e) (none-heard card ∙ sym (h .first e .0))
-        (kitchen-fits card (distance closure) (wait closure) made (st .tight .closed) 0 opening no-point (start-fits card (distance closure) (wait closure) made (st .tight .sound)) (opening-law card made)))
+    (kitchen-fits card (distance closure) (wait closure) made (st .tight .closed) 0 opening no-point (start-fits card (distance closure) (wait closure) made (st .tight .sound)) (opening-law card made)))
     (cases-lt 0 t)

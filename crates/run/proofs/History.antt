@@ -27,9 +27,11 @@ use Rattle.minute.proofs.Starting.{kindled, starts-long, starts-beyond, starts-
 use Rattle.minute.proofs.Middle.{Midway, midway, law, opening-law, none-heard}
 use Rattle.minute.proofs.After.{sensible-again, agrees-again}
 use Rattle.minute.proofs.Game.{heard-wins, ordered-wins}
-use Rattle.run.specs.Runs.{Stage}
-use Rattle.run.specs.Plays.{Fault, barred, played, short, unfit, disagrees}
-use Rattle.run.specs.Whole.{bare, Partner, History, begun, more, Kept, Runs-win}
+use Rattle.network.specs.Model.{model}
+use Rattle.run.specs.declared.run.Run.{Run}
+use Rattle.run.specs.Runs.{Stage, stage}
+use Rattle.run.specs.Plays.{Accepted, Fault, barred, played, short, unfit, disagrees}
+use Rattle.run.specs.Whole.{bare, Partner, History, begun, more, HistoryOf, Kept, Runs-win}
 use Rattle.run.proofs.Stand.{sensible-first}
 
 -- ---- a kitchen's spans over a minute
@@ -131,12 +133,12 @@ module _ (card : Card) (made : WellMade card) (t : ℕ) (at then : Position) (sp
       let x = m .heard .later lt in
       let left-then : suc (card .horizon) - t ≡ suc (card .horizon - t) = omega arith in
       subst (λ f. Mid card (card .horizon - t) t f no-point) (sym (x .1))
-          (heard-wins card (card .horizon - t) t at (ended card at (m .moved)) (subst (λ k. Win card k t at) left-then (wins lt)) (law card made t 32 at spans (m .moved) se ready (x .0 .0) moved-lawful)))
+      (heard-wins card (card .horizon - t) t at (ended card at (m .moved)) (subst (λ k. Win card k t at) left-then (wins lt)) (law card made t 32 at spans (m .moved) se ready (x .0 .0) moved-lawful)))
       (λ le.
       let e : t ≡ 0 = omega arith in
       let k : card .horizon ≡ card .horizon - t = omega arith in
       subst (λ f. Mid card (card .horizon - t) t f no-point) (none-heard card ∙ sym (m .heard .first e .0))
-          (subst₂ (λ j n. Mid card j n (heard card 0 no-point opening) no-point) k (sym e) (heard-wins card (card .horizon) 0 opening no-point good (opening-law card made))))
+      (subst₂ (λ j n. Mid card j n (heard card 0 no-point opening) no-point) k (sym e) (heard-wins card (card .horizon) 0 opening no-point good (opening-law card made))))
       (cases-lt 0 t)
 
   pub wins-next : Good card → (0 < t → Win card (suc (card .horizon) - t) t at) → Win card (suc (card .horizon) - suc t) (suc t) then
@@ -199,3 +201,14 @@ minute-bare means card t at then k l m = record {
   ordered = m .ordered;
   started = starts-bare means (starting card then t) (spanCount card) (m .moved) l (m .started);
 }
+
+-- ---- the history of a run as the code holds it
+
+pub history-first : (s : Stage) → s .next ≡ 0 → s .position ≡ nothing-yet → HistoryOf s
+history-first s n e = subst₂ (λ t at. History (s .card) t at) (sym n) (sym e) begun
+
+pub history-on : {K : Type 0} (means : Meaning K) (r r′ : Run) (k l : K) (list list′ : List ℕ) (count : ℕ) → Lawful (means .spans k) → Accepted means r r′ k l list list′ count → HistoryOf (stage r) → HistoryOf (stage r′)
+history-on means r r′ k l list list′ count ok a h =
+    subst₂ (λ card t. History card t (stage r′ .position)) (sym (ap (λ x. model (x .network .content)) (a .card))) (sym (a .next ∙ add-one (r .next)))
+    (more (r .next) (stage r .position) (stage r′ .position) (means .spans k) (means .spans l) h (a .ready .in-time) (record { lawful = ok; fits = a .ready .fits; agrees = a .ready .agrees })
+    (minute-bare means (stage r .card) (r .next) (stage r .position) (stage r′ .position) k l (a .played .rules)))

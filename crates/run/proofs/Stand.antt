@@ -8,10 +8,13 @@ use Rattle.std.specs.declared.option.Option.the-variants.{None}
 use Rattle.rules.specs.Card.{Card, WellMade, finishOf}
 use Rattle.rules.specs.Game.{Position, Good}
 use Rattle.rules.proofs.Basics.{clash}
+use Rattle.rules.proofs.Derived.{derived-wider}
+use Rattle.rules.proofs.Marks.{loops-lose}
 use Rattle.rules.proofs.Strategy.{tables-win}
 use Rattle.network.specs.Model.{model}
 use Rattle.judge.specs.declared.closure.Closure.{Closure}
 use Rattle.judge.specs.Closures.{distance, wait, Winning}
+use Rattle.judge.specs.Closing.{Doomed}
 use Rattle.minute.specs.Minutes.{at, nothing-yet}
 use Rattle.minute.specs.Standing.{Sensible, Standing}
 use Rattle.minute.proofs.Props.{standing-prop}
@@ -36,3 +39,6 @@ stands-first card closure at w e = record {
 
 pub good : (card : Card) (closure : Closure) → WellMade card → Winning card closure → Good card
 good card closure made w = tables-win card (distance closure) (wait closure) made (w .closed) (w .sound)
+
+pub lost : (card : Card) → WellMade card → Doomed card → Good card → ⊥
+lost card made d = loops-lose card made (d .kind) (d .point) (d .weight) (derived-wider (λ e h. tt) (d .loop)) (d .negative)

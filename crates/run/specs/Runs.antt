@@ -1,10 +1,9 @@
 -- A run as the rules see it.
 use mathlib.Core.Path.{_≡_}
-use mathlib.Core.Bool.{Bool, true, cond}
+use mathlib.Core.Bool.{Bool, cond}
 use Prim.Native.Nat.{ℕ}
 use lib.Dec.{ltb}
 use Rattle.std.specs.declared.option.Option.{Option}
-use Rattle.std.specs.declared.option.Option.the-variants.{Some, None}
 use Rattle.std.specs.declared.result.Result.{Result}
 use Rattle.std.specs.declared.result.Result.the-variants.{Ok, Err}
 use Rattle.std.specs.Orderings.{Decides}
@@ -13,8 +12,6 @@ use Rattle.rules.specs.declared.refusal.Refusal.the-variants.{NoPoint}
 use Rattle.rules.specs.Card.{Card}
 use Rattle.rules.specs.Game.{Position, Good}
 use Rattle.network.specs.Model.{model}
-use Rattle.judge.specs.declared.closure.Closure.{Closure}
-use Rattle.judge.specs.Closures.{Winning}
 use Rattle.minute.specs.Minutes.{at, nothing-yet}
 use Rattle.run.specs.declared.run.Run.{Run}
 
@@ -27,11 +24,6 @@ pub record Stage : Type 0 where
 
 abbrev pub stage : Run → Stage
 stage r = record { card = model (r .card .network .content); live = r .live; next = r .next; position = at (r .minutes) }
-
--- what the judge found: tables that win, or that the card is not good
-abbrev pub Judged : Card → Option Closure → Type 0
-Judged card (Some closure) = Winning card closure
-Judged card None = Good card → ⊥
 
 -- a run of the card that has just begun: it is live exactly if the card is good, and nothing has happened
 pub record Begun (card : Card) (s : Stage) : Type 0 where

@@ -32,6 +32,9 @@ pub data History (card : Card) : ℕ → Position → Type 0 where
   more : (t : ℕ) (at then : Position) (spans left : List Track) → History card t at → t ≤ card .horizon → Partner card t at spans
       → Minute bare card t at then spans left → History card (suc t) then
 
+abbrev pub HistoryOf : Stage → Type 0
+HistoryOf s = History (s .card) (s .next) (s .position)
+
 -- What holds before minute t of a run on a good card:
 pub record Kept (card : Card) (t : ℕ) (at : Position) : Type 0 where
   pub in-time : t ≤ suc (card .horizon)

@@ -4,10 +4,12 @@ ghost use mathlib.Core.Bool.{true};
 ghost use Rattle.network.specs.Model.{model};
 ghost use Rattle.judge.specs.Closures.{Winning};
 ghost use Rattle.minute.specs.Minutes.{at, nothing-yet};
-ghost use Rattle.run.specs.Runs.{stage, Judged, Begun, asked};
+ghost use Rattle.run.specs.Runs.{stage, Begun, asked};
+ghost use Rattle.run.specs.Whole.{HistoryOf};
 use crate::run::Run;
 use card::closed::ClosedCard;
 use judge::closure::Closure;
+use judge::judging::judge;
 use minute::look::minute_of;
 use rules::refusal::Refusal;
 
@@ -35,13 +37,13 @@ impl Run {
         }
     }
 
-    /// A run of the card of which no minute is played, live if there are tables that win.
-    pub fn started(card: ClosedCard, closure: Option<Closure>) -> Run
-        requires { ⌜ Judged (model (card .network .content)) closure ⌝ }
+    /// Begins a run of a closed card, and uses it up: live if the card is good, and barred if it is bad.
+    pub fn begin(card: ClosedCard) -> Run
         ensures card { λ r. ⌜ r .card ≡ card ⌝ }
         ensures begun { λ r. ⌜ Begun (model (card .network .content)) (stage r) ⌝ }
+        ensures history { λ r. ⌜ HistoryOf (stage r) ⌝ }
     {
-        match closure {
+        match judge(card.network()) {
             Some(closure) => Run::fresh(card, true, closure),
             None => Run::fresh(card, false, NO_CLOSURE),
         }

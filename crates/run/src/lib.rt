@@ -2,4 +2,6 @@
 pub mod begin;
 pub mod play;
 pub mod run;
+#[cfg(test)]
+mod tests;
 pub mod whole;

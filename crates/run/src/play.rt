@@ -9,6 +9,7 @@ ghost use Rattle.minute.specs.Meets.{Ready};
 ghost use Rattle.minute.specs.Played.{meaning};
 ghost use Rattle.run.specs.Runs.{stage};
 ghost use Rattle.run.specs.Plays.{Fault, Accepted, Plays};
+ghost use Rattle.run.specs.Whole.{HistoryOf};
 use crate::run::Run;
 use kitchen::interface::Kitchen;
 use minute::meet::agrees;
@@ -66,7 +67,8 @@ impl Run {
 
     /// Plays the next minute with a kitchen that fits and agrees, lists its events, and answers how many.
     pub fn play<K: Kitchen>(&mut self, kitchen: &mut K, list: &mut [u8]) -> Result<usize, Refusal>
-        ensures { λ r. ⌜ Plays (meaning (K·Kitchen .spans) (K·Kitchen .starts) (K·Kitchen .advances)) (now (self .entry)) (now (self .exit)) (now (kitchen .entry)) (now (kitchen .exit)) (now (list .entry)) (now (list .exit)) r ⌝ }
+        ensures plays { λ r. ⌜ Plays (meaning (K·Kitchen .spans) (K·Kitchen .starts) (K·Kitchen .advances)) (now (self .entry)) (now (self .exit)) (now (kitchen .entry)) (now (kitchen .exit)) (now (list .entry)) (now (list .exit)) r ⌝ }
+        ensures history { λ _. ⌜ (HistoryOf (stage (now (self .entry))) → HistoryOf (stage (now (self .exit)))) ⌝ }
     {
         match self.fault(kitchen, list.len()) {
             Some(e) => Err(e),
