@@ -1,0 +1,13 @@
+pub mod Arrays
+pub mod Plain
+pub mod Props
+pub mod Allowed
+pub mod Hearing
+pub mod Deciding
+pub mod Meeting
+pub mod Starting
+pub mod Listing
+pub mod Ending
+pub mod Middle
+pub mod After
+pub mod Game

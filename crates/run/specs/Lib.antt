@@ -1,0 +1,3 @@
+pub mod Runs
+pub mod Plays
+pub mod Whole
