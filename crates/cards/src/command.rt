@@ -3,6 +3,7 @@ use crate::numbers::read_number;
 use crate::numbers::to_i16;
 use crate::numbers::to_u8;
 use crate::numbers::to_u16;
+use crate::numbers::to_u64;
 use rules::parts::Tie;
 
 /// What a line asks for.
@@ -23,6 +24,11 @@ pub enum Command<'a> {
     Check,
     Try(Tie),
     Stretch,
+    Begin,
+    /// So many minutes, or all that are left.
+    Play(Option<u64>),
+    Ask(u8),
+    End,
     /// The words after the first say which.
     MakeKitchen,
     /// The words after the first are the rests.
@@ -87,6 +93,21 @@ fn read_try<'a>(words: &[&'a str]) -> Option<Command<'a>> {
     within(words, 4, Command::Try(tie))
 }
 
+/// `play`, `play N` or `play all`.
+fn read_play<'a>(words: &[&'a str]) -> Option<Command<'a>> {
+    let minutes = match word(words, 1) {
+        None => Some(1),
+        Some("all") => None,
+        Some(count) => Some(to_u64(read_number(count)?)),
+    };
+    within(words, 2, Command::Play(minutes))
+}
+
+fn read_ask<'a>(words: &[&'a str]) -> Option<Command<'a>> {
+    let point = to_u8(number(words, 1)?);
+    within(words, 2, Command::Ask(point))
+}
+
 /// The command of a line's words.
 pub fn read_command<'a>(words: &[&'a str]) -> Command<'a> {
     let Some(first) = word(words, 0) else {
@@ -108,6 +129,10 @@ pub fn read_command<'a>(words: &[&'a str]) -> Command<'a> {
         "check" => within(words, 1, Command::Check),
         "try" => read_try(words),
         "stretch" => within(words, 1, Command::Stretch),
+        "begin" => within(words, 1, Command::Begin),
+        "play" => read_play(words),
+        "ask" => read_ask(words),
+        "end" => within(words, 1, Command::End),
         "kitchen" => Some(Command::MakeKitchen),
         "rest" => Some(Command::Rest),
         "clock" => within(words, 1, Command::Clock),

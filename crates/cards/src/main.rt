@@ -4,6 +4,7 @@ mod judging;
 mod kitchens;
 mod numbers;
 mod refusals;
+mod running;
 mod session;
 mod show;
 mod steps;
@@ -46,7 +47,14 @@ fn run(rt: &LibcRuntime) -> Result<(), AnyError> {
             | Command::Unreadable => {
                 kitchen = on_kitchen(rt, kitchen, command, words.as_slice())?;
             }
-            _ => held = on_card(rt, held, &mut names, command, words.as_slice())?,
+            _ => held = on_card(
+                rt,
+                held,
+                &mut kitchen,
+                &mut names,
+                command,
+                words.as_slice(),
+            )?,
         }
     }
     Ok(())

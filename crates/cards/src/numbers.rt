@@ -57,3 +57,11 @@ pub fn to_i16(number: i64) -> i16 {
         Err(_) => i16::MAX,
     }
 }
+
+/// A count; a negative one is none.
+pub fn to_u64(number: i64) -> u64 {
+    match u64::try_from(number) {
+        Ok(x) => x,
+        Err(_) => 0,
+    }
+}

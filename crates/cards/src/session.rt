@@ -8,6 +8,8 @@ use crate::kitchens::clock;
 use crate::kitchens::lay_rest;
 use crate::kitchens::make_kitchen;
 use crate::refusals::refuse;
+use crate::running::ask;
+use crate::running::play;
 use crate::show::show_card;
 use crate::steps::read_steps;
 use crate::tables::print_distances;
@@ -19,6 +21,7 @@ use kitchen::noted::NotedKitchen;
 use kitchen::resting::RestingKitchen;
 use rules::parts::Tie;
 use rules::refusal::Refusal;
+use run::run::Run;
 use std::error::AnyError;
 
 /// The card in its state.
@@ -26,6 +29,7 @@ use std::error::AnyError;
 pub enum Held {
     Open(OpenCard),
     Closed(ClosedCard),
+    Running(Run),
 }
 
 /// The names of points belong to the script, not to the card.
@@ -51,6 +55,10 @@ fn not_now(rt: &LibcRuntime, held: Held) -> Result<Held, AnyError> {
         Held::Closed(card) => {
             rt.println("not now (the card is closed)")?;
             Ok(Held::Closed(card))
+        }
+        Held::Running(run) => {
+            rt.println("not now (the card is in a run)")?;
+            Ok(Held::Running(run))
         }
     }
 }
@@ -141,16 +149,46 @@ fn on_closed(
         Command::Check => check(rt, &card)?,
         Command::Try(tie) => try_tie(rt, &mut card, tie)?,
         Command::Stretch => stretch(rt, &card)?,
+        Command::Begin => return begin(rt, card),
         Command::Show => show_card(rt, card.network(), names.list.as_slice())?,
         _ => return not_now(rt, Held::Closed(card)),
     }
     Ok(Held::Closed(card))
 }
 
+/// Begins a run: live if the card is good, and barred if it is bad.
+fn begin(rt: &LibcRuntime, card: ClosedCard) -> Result<Held, AnyError> {
+    let run = Run::begin(card);
+    rt.println(if run.is_live() { "live" } else { "barred" })?;
+    Ok(Held::Running(run))
+}
+
+/// A command on a run.
+fn on_run(
+    rt: &LibcRuntime,
+    mut run: Run,
+    kitchen: &mut ScriptKitchen,
+    names: &Names,
+    command: Command,
+) -> Result<Held, AnyError> {
+    match command {
+        Command::Play(minutes) => play(rt, &mut run, kitchen, names, minutes)?,
+        Command::Ask(point) => ask(rt, &run, point)?,
+        Command::Show => show_card(rt, run.network(), names.list.as_slice())?,
+        Command::End => {
+            rt.println("closed")?;
+            return Ok(Held::Closed(run.end()));
+        }
+        _ => return not_now(rt, Held::Running(run)),
+    }
+    Ok(Held::Running(run))
+}
+
 /// A command on the card.
 pub fn on_card(
     rt: &LibcRuntime,
     held: Held,
+    kitchen: &mut ScriptKitchen,
     names: &mut Names,
     command: Command,
     words: &[&str],
@@ -158,6 +196,7 @@ pub fn on_card(
     match held {
         Held::Open(card) => on_open(rt, card, names, command),
         Held::Closed(card) => on_closed(rt, card, names, command, words),
+        Held::Running(run) => on_run(rt, run, kitchen, names, command),
     }
 }
 

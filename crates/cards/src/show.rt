@@ -2,7 +2,7 @@
 use network::network::Network;
 use std::error::AnyError;
 
-fn name_of(names: &[String], point: usize) -> &str {
+pub fn name_of(names: &[String], point: usize) -> &str {
     if point >= names.len() {
         return "";
     }

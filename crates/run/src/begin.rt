@@ -11,6 +11,7 @@ use card::closed::ClosedCard;
 use judge::closure::Closure;
 use judge::judging::judge;
 use minute::look::minute_of;
+use network::network::Network;
 use rules::refusal::Refusal;
 
 /// The tables of a barred run.
@@ -65,5 +66,19 @@ impl Run {
             return Err(Refusal::NoPoint);
         }
         Ok(minute_of(&self.minutes, point as usize))
+    }
+
+    /// Whether the run is live; one that is not is barred.
+    pub fn is_live(&self) -> bool
+        ensures { λ r. ⌜ r ≡ stage (now (self .entry)) .live ⌝ }
+    {
+        self.live
+    }
+
+    /// What the card holds.
+    pub fn network(&self) -> &Network
+        ensures { λ r. ⌜ now r ≡ now (self .entry) .card .network ⌝ }
+    {
+        self.card.network()
     }
 }
