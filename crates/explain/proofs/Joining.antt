@@ -1,0 +1,54 @@
+-- The rules, by columns of the table.
+use Prim.Native.Nat.{ℕ, zero, suc, _+_, _-_, _≤_, _<_}
+use mathlib.Core.Path.{_≡_, refl, sym, _∙_, ap, subst}
+use mathlib.Core.Logic.{_⊎_, inl, inr, ⊎-elim, _≢_}
+use mathlib.Core.List.{List}
+use native.Mathlib.Omega.{arith}
+use lib.ListN.{length, getD, set}
+use lib.IntN.{ℤ, pos, negsuc, negℤ, _+ℤ_}
+use lib.Signed.{_≤ℤ_, _<ℤ_}
+use Rattle.std.proofs.shelf.Signed.{ints}
+use Rattle.rules.specs.declared.edges.Kind.{Kind}
+use Rattle.rules.specs.declared.edges.Kind.the-variants.{Plain, Lower, Wait, AllMost}
+use Rattle.rules.specs.declared.edges.Edge.{Edge}
+use Rattle.rules.specs.Card.{Card, spanCount, startOf, finishOf, leastOf}
+use Rattle.rules.specs.Edges.{edge, Rule, rule-N, rule-U, rule-L, rule-X, rule-R, Early, Released}
+use Rattle.explain.specs.declared.work.Best.{Best}
+use Rattle.explain.specs.Columns.{at, columns, waitOf, headOf, kindOf, letterOf, way}
+use Rattle.explain.specs.Working.{CoveredAt}
+use Rattle.explain.proofs.Columns.{head-point, head-wait, kind-point, kind-wait, letter-point, letter-wait, column-is}
+
+module _ (card : Card) where
+  pub way-point : (p q : ℕ) (w : ℤ) → q < card .points → way card p q w ≡ edge Plain p q w
+  way-point p q w h = λ i. edge (kind-point card q h i) p (head-point card q h i) w
+
+  pub way-wait : (p s : ℕ) (w : ℤ) → way card p (waitOf card s) w ≡ edge (Wait s) p (startOf card s) w
+  way-wait p s w = λ i. edge (kind-wait card s i) p (head-wait card s i) w
+
+  -- N or U
+  pub by-chain : (r p x : ℕ) (u v : ℤ) → x < columns card → Rule card (letterOf card x) (edge Plain r p u) (way card p x v) (way card r x (u +ℤ v))
+  by-chain r p x u v h =
+      ⊎-elim
+      (λ l. subst (λ z. Rule card z (edge Plain r p u) (way card p x v) (way card r x (u +ℤ v))) (sym (letter-point card x l))
+      (subst (λ z. Rule card 78 (edge Plain r p u) z (way card r x (u +ℤ v))) (sym (way-point p x v l))
+      (subst (λ z. Rule card 78 (edge Plain r p u) (edge Plain p x v) z) (sym (way-point r x (u +ℤ v) l)) (rule-N r p x u v))))
+      (λ w. subst (λ y. Rule card (letterOf card y) (edge Plain r p u) (way card p y v) (way card r y (u +ℤ v))) (sym (w .2))
+      (subst (λ z. Rule card z (edge Plain r p u) (way card p (waitOf card (w .0)) v) (way card r (waitOf card (w .0)) (u +ℤ v))) (sym (letter-wait card (w .0)))
+      (subst (λ z. Rule card 85 (edge Plain r p u) z (way card r (waitOf card (w .0)) (u +ℤ v))) (sym (way-wait p (w .0) v))
+      (subst (λ z. Rule card 85 (edge Plain r p u) (edge (Wait (w .0)) p (startOf card (w .0)) v) z) (sym (way-wait r (w .0) (u +ℤ v))) (rule-U (w .0) r p (startOf card (w .0)) u v)))))
+      (column-is card x h)
+
+  -- covered by its entry
+  pub covered-way : (e : List Best) (p x : ℕ) (w : ℤ) → x < columns card → CoveredAt card e (kindOf card x) p (headOf card x) w → at e p x ≤ℤ w
+  covered-way e p x w h c =
+      ⊎-elim
+      (λ l. subst (λ z. CoveredAt card e Plain p z w) (head-point card x l) (subst (λ k. CoveredAt card e k p (headOf card x) w) (kind-point card x l) c))
+      (λ y. subst (λ z. at e p z ≤ℤ w) (sym (y .2)) (subst (λ k. CoveredAt card e k p (headOf card x) w) (ap (kindOf card) (y .2) ∙ kind-wait card (y .0)) c))
+      (column-is card x h)
+
+  pub way-covered : (e : List Best) (p x : ℕ) (w : ℤ) → x < columns card → at e p x ≤ℤ w → CoveredAt card e (kindOf card x) p (headOf card x) w
+  way-covered e p x w h c =
+      ⊎-elim
+      (λ l. subst (λ k. CoveredAt card e k p (headOf card x) w) (sym (kind-point card x l)) (subst (λ z. CoveredAt card e Plain p z w) (sym (head-point card x l)) c))
+      (λ y. subst (λ k. CoveredAt card e k p (headOf card x) w) (sym (ap (kindOf card) (y .2) ∙ kind-wait card (y .0))) (subst (λ z. at e p z ≤ℤ w) (y .2) c))
+      (column-is card x h)

@@ -1,0 +1,4 @@
+//! Why a card is bad: a list of steps that ends in a negative loop.
+pub mod tables;
+pub mod work;
+pub mod writes;
