@@ -1,3 +1,5 @@
 pub mod Columns
 pub mod Writing
 pub mod Joining
+pub mod Ending
+pub mod Holding

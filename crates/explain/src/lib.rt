@@ -1,4 +1,5 @@
 //! Why a card is bad: a list of steps that ends in a negative loop.
+pub mod relaxes;
 pub mod tables;
 pub mod work;
 pub mod writes;
