@@ -17,7 +17,7 @@ use Rattle.rules.specs.declared.edges.Kind.{Kind}
 use Rattle.rules.specs.declared.edges.Kind.the-variants.{Plain, Wait}
 use Rattle.rules.specs.Card.{Card, WellMade, spanCount, startOf}
 use Rattle.explain.specs.declared.work.Best.{Best}
-use Rattle.explain.specs.Columns.{no-best, best, at, columns, waitOf, headOf, kindOf, letterOf, lift, height}
+use Rattle.explain.specs.Columns.{no-best, best, at, columns, waitOf, headOf, kindOf, letterOf, lowerOf, lift, height}
 
 module _ (card : Card) where
   pub head-point : (x : ℕ) → x < card .points → headOf card x ≡ x
@@ -43,6 +43,14 @@ module _ (card : Card) where
   pub letter-wait : (s : ℕ) → letterOf card (waitOf card s) ≡ 85
   unfolding letterOf waitOf
   letter-wait s = let le : card .points ≤ card .points + s = omega arith in grind (arith, tells)
+
+  pub lower-point : (x : ℕ) → x < card .points → lowerOf card x ≡ 76
+  unfolding lowerOf
+  lower-point x h = grind (arith, tells)
+
+  pub lower-wait : (s : ℕ) → lowerOf card (waitOf card s) ≡ 88
+  unfolding lowerOf waitOf
+  lower-wait s = let le : card .points ≤ card .points + s = omega arith in grind (arith, tells)
 
   -- a column is that of a point or of a span
   pub column-is : (x : ℕ) → x < columns card → (x < card .points) ⊎ ((s : ℕ) × (s < spanCount card) × (x ≡ waitOf card s))

@@ -33,7 +33,7 @@ use Rattle.explain.specs.Explained.{Useful}
 use Rattle.explain.specs.Working.{Stands, Written, Fair, CoveredAt, Covered, Covers, Holds, Went, Onward, Back}
 use Rattle.explain.proofs.Columns.{head-point, column-is, point-column, head-in, best-put, height-put}
 use Rattle.explain.proofs.Joining.{way-point, covered-way, way-covered}
-use Rattle.explain.proofs.Writing.{stands-more, stands-new, written-more, known-set, onward-set}
+use Rattle.explain.proofs.Writing.{stands-more, stands-new, written-more, known-set, onward-set, onward-none}
 
 -- ---- given edges stay known
 
@@ -122,6 +122,11 @@ fair-more card es f p x b h = record {
   first = h .first;
   stands = λ ne le. stands-more es f (way card p x (b .weight)) (b .number) (h .stands ne le);
 }
+
+-- ---- nothing done
+
+pub went-none : (card : Card) (work : Work) (steps : List Step) → Holds card work steps → (R : Type 0) → R → Went card work steps work steps R false
+went-none card work steps h R r = record { holds = h; onward = onward-none (work .count) steps; lower = λ p x. omega (arith, ints); less = λ q. absurd (false≢true q); same = λ _. (refl, r) }
 
 -- ---- a better edge
 
@@ -236,6 +241,17 @@ module _ (n : Network) (work : Work) (steps : List Step) (h : Holds (model (n .c
   pub height-next : height e′ < height (work .best)
   height-next = height-put (work .best) p x b (h .size) (point-room n p lp) (column-room n x lx) (omega (arith, ints, low, horizon-in n)) less
 
+  in-table : p * 40 + x < length (work .best)
+  in-table = omega (arith, h .size, point-room n p lp, column-room n x lx)
+
+  next-lower : (q y : ℕ) → at e′ q y ≤ℤ at (work .best) q y
+  unfolding best
+  next-lower q y = lowered m (work .best) (p * 40 + x) b (omega (arith, ints, less)) in-table q y
+
+  at-made : at e′ p x ≡ v
+  unfolding best
+  at-made = ap (λ z. z .weight) (getD-set-same (work .best) (p * 40 + x) b no-best in-table)
+
   -- the same of the table and the list that code made
   module _ (work′ : Work) (steps′ : List Step) (table : work′ .best ≡ e′) (count : work′ .count ≡ suc (work .count)) (list : steps′ ≡ set steps (work .count) s) where
     next-is : work′ ≡ record { best = e′; count = suc (work .count) }
@@ -267,6 +283,10 @@ module _ (n : Network) (work : Work) (steps : List Step) (h : Holds (model (n .c
     next-went R back = record {
       holds = subst (λ l. Holds m work′ l) (sym list) (subst (λ w. Holds m w (set steps (work .count) s)) (sym next-is) (holds-next (subst (λ t. pos 0 ≤ℤ (at t (headOf m x) p +ℤ v)) table back)));
       onward = next-onward;
+      lower = λ q y. subst (λ t. at t q y ≤ℤ at (work .best) q y) (sym table) (next-lower q y);
       less = λ _. subst (λ t. height t < height (work .best)) (sym table) height-next;
       same = λ q. absurd (true≢false q);
     }
+
+    pub next-taken : at (work′ .best) p x ≤ℤ v
+    next-taken = omega (arith, ints, ap (λ t. at t p x) table, at-made)

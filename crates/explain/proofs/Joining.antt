@@ -14,9 +14,9 @@ use Rattle.rules.specs.declared.edges.Edge.{Edge}
 use Rattle.rules.specs.Card.{Card, spanCount, startOf, finishOf, leastOf}
 use Rattle.rules.specs.Edges.{edge, Rule, rule-N, rule-U, rule-L, rule-X, rule-R, Early, Released}
 use Rattle.explain.specs.declared.work.Best.{Best}
-use Rattle.explain.specs.Columns.{at, columns, waitOf, headOf, kindOf, letterOf, way}
+use Rattle.explain.specs.Columns.{at, columns, waitOf, headOf, kindOf, letterOf, lowerOf, way}
 use Rattle.explain.specs.Working.{CoveredAt}
-use Rattle.explain.proofs.Columns.{head-point, head-wait, kind-point, kind-wait, letter-point, letter-wait, column-is}
+use Rattle.explain.proofs.Columns.{head-point, head-wait, kind-point, kind-wait, letter-point, letter-wait, lower-point, lower-wait, column-is}
 
 module _ (card : Card) where
   pub way-point : (p q : ℕ) (w : ℤ) → q < card .points → way card p q w ≡ edge Plain p q w
@@ -37,6 +37,28 @@ module _ (card : Card) where
       (subst (λ z. Rule card 85 (edge Plain r p u) z (way card r (waitOf card (w .0)) (u +ℤ v))) (sym (way-wait p (w .0) v))
       (subst (λ z. Rule card 85 (edge Plain r p u) (edge (Wait (w .0)) p (startOf card (w .0)) v) z) (sym (way-wait r (w .0) (u +ℤ v))) (rule-U (w .0) r p (startOf card (w .0)) u v)))))
       (column-is card x h)
+
+  -- L or X
+  pub by-lower : (s a c x : ℕ) (u v : ℤ) → x < columns card → x ≢ waitOf card s → Early v → Rule card (lowerOf card x) (edge (Lower s) a c u) (way card c x v) (way card a x (u +ℤ v))
+  by-lower s a c x u v h other early =
+      ⊎-elim
+      (λ l. subst (λ z. Rule card z (edge (Lower s) a c u) (way card c x v) (way card a x (u +ℤ v))) (sym (lower-point card x l))
+      (subst (λ z. Rule card 76 (edge (Lower s) a c u) z (way card a x (u +ℤ v))) (sym (way-point c x v l))
+      (subst (λ z. Rule card 76 (edge (Lower s) a c u) (edge Plain c x v) z) (sym (way-point a x (u +ℤ v) l)) (rule-L s a c x u v early))))
+      (λ w.
+      let apart : s ≢ w .0 = λ q. other (w .2 ∙ ap (waitOf card) (sym q)) in
+      subst (λ y. Rule card (lowerOf card y) (edge (Lower s) a c u) (way card c y v) (way card a y (u +ℤ v))) (sym (w .2))
+      (subst (λ z. Rule card z (edge (Lower s) a c u) (way card c (waitOf card (w .0)) v) (way card a (waitOf card (w .0)) (u +ℤ v))) (sym (lower-wait card (w .0)))
+      (subst (λ z. Rule card 88 (edge (Lower s) a c u) z (way card a (waitOf card (w .0)) (u +ℤ v))) (sym (way-wait c (w .0) v))
+      (subst (λ z. Rule card 88 (edge (Lower s) a c u) (edge (Wait (w .0)) c (startOf card (w .0)) v) z) (sym (way-wait a (w .0) (u +ℤ v))) (rule-X s (w .0) a c (startOf card (w .0)) u v apart early)))))
+      (column-is card x h)
+
+  -- R
+  pub by-release : (s p : ℕ) (v : ℤ) → startOf card s < card .points → Released card s v
+      → Rule card 82 (way card p (waitOf card s) v) (way card p (waitOf card s) v) (way card p (startOf card s) v)
+  by-release s p v lt released =
+      subst (λ z. Rule card 82 z z (way card p (startOf card s) v)) (sym (way-wait p s v))
+      (subst (λ z. Rule card 82 (edge (Wait s) p (startOf card s) v) (edge (Wait s) p (startOf card s) v) z) (sym (way-point p (startOf card s) v lt)) (rule-R s p (startOf card s) v released))
 
   -- covered by its entry
   pub covered-way : (e : List Best) (p x : ℕ) (w : ℤ) → x < columns card → CoveredAt card e (kindOf card x) p (headOf card x) w → at e p x ≤ℤ w

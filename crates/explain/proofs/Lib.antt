@@ -3,3 +3,4 @@ pub mod Writing
 pub mod Joining
 pub mod Ending
 pub mod Holding
+pub mod Chaining

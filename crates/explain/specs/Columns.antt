@@ -42,6 +42,10 @@ kindOf card x = cond (ltb x (card .points)) Plain (Wait (x - card .points))
 unfoldable pub letterOf : Card → ℕ → ℕ
 letterOf card x = cond (ltb x (card .points)) 78 85
 
+-- the letter of the rule that puts a lower edge before it: L or X
+unfoldable pub lowerOf : Card → ℕ → ℕ
+lowerOf card x = cond (ltb x (card .points)) 76 88
+
 -- the edge from p of a column and a weight
 abbrev pub way : Card → ℕ → ℕ → ℤ → Edge
 way card p x w = edge (kindOf card x) p (headOf card x) w

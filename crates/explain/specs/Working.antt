@@ -7,6 +7,8 @@ use mathlib.Core.List.{List}
 use lib.IntN.{ℤ, pos, negsuc, negℤ, _+ℤ_}
 use lib.ListN.{length, getD, set}
 use lib.Signed.{_≤ℤ_, _<ℤ_}
+use Rattle.std.specs.declared.option.Option.{Option}
+use Rattle.std.specs.declared.option.Option.the-variants.{Some, None}
 use Rattle.std.specs.declared.result.Result.{Result}
 use Rattle.std.specs.declared.result.Result.the-variants.{Ok, Err}
 use Rattle.rules.specs.declared.edges.Kind.{Kind}
@@ -93,12 +95,18 @@ Ended card n steps m steps′ Spent = (length steps′ ≡ length steps) × Full
 pub record Went (card : Card) (work : Work) (steps : List Step) (work′ : Work) (steps′ : List Step) (R : Type 0) (b : Bool) : Type 0 where
   pub holds : Holds card work′ steps′
   pub onward : Onward (work .count) steps (work′ .count) steps′
+  pub lower : (p x : ℕ) → at (work′ .best) p x ≤ℤ at (work .best) p x
   pub less : b ≡ true → height (work′ .best) < height (work .best)
   pub same : b ≡ false → (work′ .best ≡ work .best) × R
 
 abbrev pub Told : Card → Work → List Step → Work → List Step → Type 0 → Result Bool Stop → Type 0
 Told card work steps work′ steps′ R (Ok b) = Went card work steps work′ steps′ R b
 Told card work steps work′ steps′ R (Err stop) = Ended card (work .count) steps (work′ .count) steps′ stop
+
+-- unless the search ended, the entry is no worse than v now
+abbrev pub Taken : List Best → ℕ → ℕ → ℤ → Result Bool Stop → Type 0
+Taken e p x v (Ok b) = at e p x ≤ℤ v
+Taken e p x v (Err stop) = Unit {0}
 
 -- a step is written, or there is no room for it
 abbrev pub Put : Work → List Step → Work → List Step → Step → Result (Unit {0}) Stop → Type 0
@@ -119,6 +127,11 @@ pub record Back (card : Card) (edges : List Edge) (p x : ℕ) (back this : Best)
 -- the entry is a known edge
 abbrev pub Present : Card → List Best → ℕ → ℕ → Type 0
 Present card e p x = (p ≢ headOf card x) × (at e p x ≤ℤ pos (card .horizon))
+
+-- the entry, if it is a known edge
+abbrev pub Found : Card → List Best → ℕ → ℕ → Option Best → Type 0
+Found card e p x (Some b) = (b ≡ best e p x) × Present card e p x
+Found card e p x None = Present card e p x → ⊥
 
 abbrev pub Rule-N : Card → List Best → ℕ → ℕ → ℕ → Type 0
 Rule-N card e p q x = Present card e p q → Present card e q x → at e p x ≤ℤ (at e p q +ℤ at e q x)

@@ -15,11 +15,21 @@ use Rattle.explain.specs.declared.work.Best.{Best}
 use Rattle.explain.specs.Columns.{at, best, headOf}
 use Rattle.explain.proofs.Columns.{head-in, point-column}
 use Rattle.explain.proofs.Ending.{put-loop, ended-after}
-use Rattle.explain.proofs.Holding.{point-room, column-room, given-few, few, near-at, next-written, next-few, next-onward, next-back-near, next-loop, next-went}
+use Rattle.explain.proofs.Holding.{point-room, column-room, given-few, few, near-at, next-written, next-few, next-onward, next-back-near, next-loop, next-went, next-taken, went-none}
 use Rattle.explain.proofs.relaxes.relax.Needs as need
 
 pub at-requires : need.at-requires
 at-requires c κs = let n = c .args .network .now in (point-room n (c .args .p) (c .pre .place .0), column-room n (c .args .x) (c .pre .place .1))
+
+pub returns-then-weight-at : need.returns-then-weight-at
+returns-then-weight-at c =
+    let n = c .args .network .now in
+    let w = c .args .work .now in
+    let l = c .args .list .now in
+    let range = c .pre .lawful .in-range in
+    let near = near-at n w l (c .pre .holds) (c .args .p) (c .args .x) (c .pre .place .0) (c .pre .place .1) in
+    let no-better : at (w .best) (c .args .p) (c .args .x) ≤ℤ c .args .step .makes .weight = omega (arith, ints, c .if-weight-at .taken, ap (λ z. z .weight) (c .at .ensures), range .0, range .1, near .0, near .1) in
+    record { told = went-none (model (n .content)) w l (c .pre .holds) _ no-better; taken = no-better }
 
 pub add-number : need.add-number
 add-number c = let n = c .args .network .now in omega (arith, c .given-count .ensures, given-few n, few n (c .args .work .now) (c .args .list .now) (c .pre .holds))
@@ -44,7 +54,7 @@ returns-then-head-p c =
     let zero = c .pre .holds .fair p x (c .pre .place .0) (c .pre .place .1) .self (sym itself) in
     let source = ap (λ e. e .source) (c .pre .way) in
     let target = ap (λ e. e .target) (c .pre .way) in
-    put-loop m w (c .write .last .work) l (c .write .last .list) s s put refl (c .pre .holds .written) (c .pre .lawful) (source ∙ sym itself ∙ sym target) (omega (arith, ints, less, zero))
+    record { told = put-loop m w (c .write .last .work) l (c .write .last .list) s s put refl (c .pre .holds .written) (c .pre .lawful) (source ∙ sym itself ∙ sym target) (omega (arith, ints, less, zero)); taken = tt }
 
 pub put-requires : need.put-requires
 put-requires c κs = let n = c .args .network .now in (point-room n (c .args .p) (c .pre .place .0), column-room n (c .args .x) (c .pre .place .1))
@@ -133,8 +143,8 @@ returns-then-back-weight-lt0 c =
     let table : c .put .last .self .best ≡ set (w .best) (p * 40 + x) (record { weight = s .makes .weight; number = length (given m) + w .count }) =
         c .put .ensures .table ∙ (λ i. set (put .3 i) (p * 40 + x) (this-is i)) in
     let count = c .put .ensures .steps ∙ put .2 in
-    ended-after m (w .count) (c .put .last .self .count) (c .close .last .work .count) l (c .write .last .list) (c .close .last .list) (c .close .result)
-    (next-onward n w l (c .pre .holds) p x (c .pre .place .0) (c .pre .place .1) s (c .pre .way) (c .pre .lawful) less apart low (put .0) (c .put .last .self) (c .write .last .list) table count (put .1)) (c .close .ensures)
+    record { told = ended-after m (w .count) (c .put .last .self .count) (c .close .last .work .count) l (c .write .last .list) (c .close .last .list) (c .close .result)
+    (next-onward n w l (c .pre .holds) p x (c .pre .place .0) (c .pre .place .1) s (c .pre .way) (c .pre .lawful) less apart low (put .0) (c .put .last .self) (c .write .last .list) table count (put .1)) (c .close .ensures); taken = tt }
 
 pub returns : need.returns
 returns c =
@@ -160,4 +170,4 @@ returns c =
     let b-is : c .at-back .result ≡ best (c .put .last .self .best) (headOf m x) p = c .at-back .ensures ∙ ap (λ h. best (c .put .last .self .best) h p) (c .head-head .ensures) in
     let bw = ap (λ z. z .weight) b-is in
     let bn = next-back-near n w l (c .pre .holds) p x (c .pre .place .0) (c .pre .place .1) s (c .pre .way) (c .pre .lawful) less apart low (put .0) (c .put .last .self) (c .write .last .list) table count (put .1) in
-    next-went n w l (c .pre .holds) p x (c .pre .place .0) (c .pre .place .1) s (c .pre .way) (c .pre .lawful) less apart low (put .0) (c .put .last .self) (c .write .last .list) table count (put .1) _ (omega (arith, ints, c .if-back-weight-lt0 .left, bw, bn .0, bn .1, range .0, range .1))
+    record { told = next-went n w l (c .pre .holds) p x (c .pre .place .0) (c .pre .place .1) s (c .pre .way) (c .pre .lawful) less apart low (put .0) (c .put .last .self) (c .write .last .list) table count (put .1) _ (omega (arith, ints, c .if-back-weight-lt0 .left, bw, bn .0, bn .1, range .0, range .1)); taken = next-taken n w l (c .pre .holds) p x (c .pre .place .0) (c .pre .place .1) s (c .pre .way) (c .pre .lawful) less apart low (put .0) (c .put .last .self) (c .write .last .list) table count (put .1) }
