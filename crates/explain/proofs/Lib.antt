@@ -4,3 +4,4 @@ pub mod Joining
 pub mod Ending
 pub mod Holding
 pub mod Chaining
+pub mod Spanning

@@ -1,5 +1,6 @@
 //! Why a card is bad: a list of steps that ends in a negative loop.
 pub mod relaxes;
+pub mod rounds;
 pub mod rules;
 pub mod tables;
 pub mod work;
