@@ -108,6 +108,9 @@ module _ (card : Card) where
   told-as w w′ l l′ P Q (Ok b) u f = record { holds = u .holds; onward = u .onward; lower = u .lower; less = u .less; same = λ q. (u .same q .0, f (u .same q .1)) }
   told-as w w′ l l′ P Q (Err stop) u f = u
 
+  pub went-as : (w w′ : Work) (l l′ : List Step) (P Q : Type 0) (b : Bool) → Went card w l w′ l′ P b → (P → Q) → Went card w l w′ l′ Q b
+  went-as w w′ l l′ P Q b u f = record { holds = u .holds; onward = u .onward; lower = u .lower; less = u .less; same = λ q. (u .same q .0, f (u .same q .1)) }
+
   -- a part whose second half cannot leave the table as it was
   pub told-on : (w w′ w″ : Work) (l l′ l″ : List Step) (P Q R : Type 0) (b : Bool) (r : Result Bool Stop) → Went card w l w′ l′ P b → Told card w′ l′ w″ l″ Q r → (Q → ⊥) → Told card w l w″ l″ R r
   told-on w w′ w″ l l′ l″ P Q R b (Err stop) u v never = ended-after card (w .count) (w′ .count) (w″ .count) l l′ l″ stop (u .onward) v

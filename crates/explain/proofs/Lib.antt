@@ -5,3 +5,4 @@ pub mod Ending
 pub mod Holding
 pub mod Chaining
 pub mod Spanning
+pub mod Closed

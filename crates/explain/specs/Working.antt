@@ -17,12 +17,13 @@ use Rattle.rules.specs.declared.edges.Edge.{Edge}
 use Rattle.rules.specs.declared.edges.Step.{Step}
 use Rattle.rules.specs.Card.{Card, spanCount, startOf, finishOf, leastOf}
 use Rattle.rules.specs.Edges.{edge}
-use Rattle.rules.specs.Steps.{no-edge, stepAt, known, LawfulTo}
+use Rattle.rules.specs.Game.{Good}
+use Rattle.rules.specs.Steps.{given, no-edge, stepAt, known, LawfulTo}
 use Rattle.explain.specs.declared.work.Best.{Best}
 use Rattle.explain.specs.declared.work.Work.{Work}
 use Rattle.explain.specs.declared.work.Stop.{Stop}
 use Rattle.explain.specs.declared.work.Stop.the-variants.{Loop, Spent}
-use Rattle.explain.specs.Columns.{best, at, columns, waitOf, headOf, way, height}
+use Rattle.explain.specs.Columns.{no-best, best, at, columns, waitOf, headOf, way, height}
 use Rattle.explain.specs.Explained.{UsefulAt}
 
 -- the edge of this number is e
@@ -147,3 +148,54 @@ Rule-R card e s p = Present card e p (waitOf card s) → negℤ (pos (leastOf ca
 -- of all numbers below n
 abbrev pub Below : ℕ → (ℕ → Type 0) → Type 0
 Below n P = (k : ℕ) → k < n → P k
+
+-- no rule lowers an entry, except perhaps by way of point 0
+abbrev pub Rounded : Card → List Best → Type 0
+Rounded card e =
+    Below (spanCount card) (λ s. Below (columns card) (Rule-L card e s) × Below (card .points) (Rule-R card e s))
+    × Below (card .points) (λ q. 0 < q → Below (card .points) (λ p. Below (columns card) (Rule-N card e p q)))
+
+-- the search ended, or the card is good
+abbrev pub Saturated : Card → Work → List Step → Work → List Step → Result (Unit {0}) Stop → Type 0
+Saturated card work steps work′ steps′ (Ok _) = Good card
+Saturated card work steps work′ steps′ (Err stop) = Ended card (work .count) steps (work′ .count) steps′ stop
+
+-- ---- the table of given edges
+
+-- the column of an edge, unless it is a lower or an all-most edge
+abbrev pub columnAt : Card → Kind → ℕ → Option ℕ
+columnAt card Plain q = Some q
+columnAt card (Lower s) q = None
+columnAt card (Wait s) q = Some (waitOf card s)
+columnAt card AllMost q = None
+
+-- an entry where no edge is known
+pub record Blank (card : Card) (p x : ℕ) (w : ℤ) : Type 0 where
+  pub self : p ≡ headOf card x → w ≡ pos 0
+  pub other : p ≢ headOf card x → w ≡ pos (suc (card .horizon))
+
+-- the table is as good as the first k given edges
+pub record Loaded (card : Card) (e : List Best) (k : ℕ) : Type 0 where
+  pub size : length e ≡ 1280
+  pub top : (j : ℕ) → j < 1280 → getD e j no-best .weight ≤ℤ pos 1441
+  pub self : (p x : ℕ) → p < card .points → x < columns card → p ≡ headOf card x → at e p x ≡ pos 0
+  pub high : (p x : ℕ) → p < card .points → x < columns card → at e p x ≤ℤ pos (suc (card .horizon))
+  pub stands : (p x : ℕ) → p < card .points → x < columns card → p ≢ headOf card x → at e p x ≤ℤ pos (card .horizon)
+      → Stands (given card) (best e p x .number) (way card p x (at e p x))
+  pub covers : (i : ℕ) → i < k → Covered card e (getD (given card) i no-edge)
+
+-- a given edge of column x is in range, and the way back makes no negative loop of it
+abbrev pub Tested : Card → List Best → Edge → Type 0
+Tested card e f = (x : ℕ) → columnAt card (f .kind) (f .target) ≡ Some x → (negℤ (pos (card .horizon)) ≤ℤ f .weight) × (pos 0 ≤ℤ (at e (headOf card x) (f .source) +ℤ f .weight))
+
+-- an edge from h to p of weight H is made by way of point 0
+abbrev pub Detoured : Card → Work → List Step → Work → List Step → ℕ → ℕ → Result Best Stop → Type 0
+Detoured card work steps work′ steps′ h p (Ok b) =
+    Written card steps′ (work′ .count) × Onward (work .count) steps (work′ .count) steps′ × (work′ .count ≤ 1) × (b .weight ≡ pos (card .horizon))
+    × Stands (known card steps′ (work′ .count)) (b .number) (edge Plain h p (b .weight))
+Detoured card work steps work′ steps′ h p (Err stop) = Ended card (work .count) steps (work′ .count) steps′ stop
+
+-- given edges pass a test, and nothing changes; or the search ends
+abbrev pub Tried : Card → Work → List Step → Work → List Step → Type 0 → Result (Unit {0}) Stop → Type 0
+Tried card work steps work′ steps′ R (Ok _) = (work′ ≡ work) × (steps′ ≡ steps) × R
+Tried card work steps work′ steps′ R (Err stop) = Ended card (work .count) steps (work′ .count) steps′ stop

@@ -4,7 +4,7 @@ ghost use Prim.Native.Nat.{ℕ, _<_};
 ghost use Rattle.rules.specs.Card.{spanCount};
 ghost use Rattle.network.specs.Model.{model};
 ghost use Rattle.explain.specs.Columns.{columns};
-ghost use Rattle.explain.specs.Working.{Holds, Told, Below, Rule-N, Rule-L, Rule-R};
+ghost use Rattle.explain.specs.Working.{Holds, Told, Below, Rule-N, Rule-L, Rule-R, Rounded, Saturated};
 use crate::relaxes::chain;
 use crate::rules::lower;
 use crate::rules::release;
@@ -105,4 +105,29 @@ fn span_all(network: &Network, work: &mut Work, list: &mut [Step]) -> Result<boo
         lowered |= span_rules(network, work, list, s)?;
     }
     Ok(lowered)
+}
+
+/// One round of all rules, but for what goes by way of point 0.
+pub fn round(network: &Network, work: &mut Work, list: &mut [Step]) -> Result<bool, Stop>
+    requires holds { ⌜ Holds (model (now network .content)) (now work) (now list) ⌝ }
+    ensures { λ r. ⌜ Told (model (now (network .entry) .content)) (now (work .entry)) (now (list .entry)) (now (work .exit)) (now (list .exit)) (Rounded (model (now (network .entry) .content)) (now (work .entry) .best)) r ⌝ }
+{
+    let spans = span_all(network, work, list)?;
+    let chains = chain_all(network, work, list)?;
+    Ok(spans | chains)
+}
+
+/// Goes on until a negative loop is found, the list is full, or no rule lowers an entry.
+pub fn saturate(network: &Network, work: &mut Work, list: &mut [Step]) -> Result<(), Stop>
+    requires holds { ⌜ Holds (model (now network .content)) (now work) (now list) ⌝ }
+    ensures { λ r. ⌜ Saturated (model (now (network .entry) .content)) (now (work .entry)) (now (list .entry)) (now (work .exit)) (now (list .exit)) r ⌝ }
+{
+    loop {
+        if round(network, work, list)? {
+            continue;
+        }
+        if !chain_by(network, work, list, 0)? {
+            return Ok(());
+        }
+    }
 }

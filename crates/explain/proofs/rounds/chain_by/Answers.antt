@@ -2,7 +2,7 @@ use Prim.Native.Nat.{_<_}
 use Rattle.network.specs.Model.{model}
 use Rattle.explain.specs.Columns.{columns}
 use Rattle.explain.specs.Working.{Below, Rule-N, Rule-L, Rule-R}
-use Rattle.explain.proofs.Chaining.{went-more, told-after}
+use Rattle.explain.proofs.Chaining.{went-more}
 use Rattle.explain.proofs.rounds.chain_by.Needs as need
 
 pub loop-p-again : need.loop-p-again
