@@ -6,3 +6,4 @@ pub mod Holding
 pub mod Chaining
 pub mod Spanning
 pub mod Closed
+pub mod Loading

@@ -4,5 +4,6 @@ pub mod relaxes;
 pub mod rounds;
 pub mod rules;
 pub mod tables;
+pub mod tests;
 pub mod work;
 pub mod writes;
