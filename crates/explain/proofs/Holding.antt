@@ -32,7 +32,7 @@ use Rattle.explain.specs.Columns.{no-best, best, at, columns, waitOf, headOf, 
 use Rattle.explain.specs.Explained.{Useful}
 use Rattle.explain.specs.Working.{Stands, Written, Fair, CoveredAt, Covered, Covers, Holds, Went, Onward, Back}
 use Rattle.explain.proofs.Columns.{head-point, column-is, point-column, head-in, best-put, height-put}
-use Rattle.explain.proofs.Joining.{way-point, covered-way, way-covered}
+use Rattle.explain.proofs.Joining.{way-point, same-way, way-covered}
 use Rattle.explain.proofs.Writing.{stands-more, stands-new, written-more, known-set, onward-set, onward-none}
 
 -- ---- given edges stay known
@@ -154,19 +154,12 @@ module _ (n : Network) (work : Work) (steps : List Step) (h : Holds (model (n .c
   high : v ≤ℤ pos (m .horizon)
   high = omega (arith, ints, less, h .fair p x lp lx .high)
 
-  covered-here : (f : Edge) → Covered m (work .best) f → f .kind ≡ kindOf m x → f .source ≡ p → f .target ≡ headOf m x → v <ℤ f .weight
-  covered-here f c k a t =
-      let z = subst (λ k. CoveredAt m (work .best) k (f .source) (f .target) (f .weight)) k c in
-      let y = subst (λ a. CoveredAt m (work .best) (kindOf m x) a (f .target) (f .weight)) a z in
-      let w = covered-way m (work .best) p x (f .weight) lx (subst (λ t. CoveredAt m (work .best) (kindOf m x) p t (f .weight)) t y) in
-      omega (arith, ints, w, less)
-
   useful-made : Useful m es made
   useful-made = record {
     apart = apart;
     low = low;
     high = high;
-    less = λ i lt k a t. covered-here (getD es i no-edge) (h .covers i lt) k a t;
+    less = λ i lt k a t. let w = same-way m (work .best) (getD es i no-edge) p x lx (h .covers i lt) k a t in omega (arith, ints, w, less);
   }
 
   pub written-next : Written m (set steps (work .count) s) (suc (work .count))

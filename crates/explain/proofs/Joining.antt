@@ -8,6 +8,7 @@ use lib.ListN.{length, getD, set}
 use lib.IntN.{ℤ, pos, negsuc, negℤ, _+ℤ_}
 use lib.Signed.{_≤ℤ_, _<ℤ_}
 use Rattle.std.proofs.shelf.Signed.{ints}
+use Rattle.std.specs.declared.option.Option.the-variants.{Some}
 use Rattle.rules.specs.declared.edges.Kind.{Kind}
 use Rattle.rules.specs.declared.edges.Kind.the-variants.{Plain, Lower, Wait, AllMost}
 use Rattle.rules.specs.declared.edges.Edge.{Edge}
@@ -15,7 +16,7 @@ use Rattle.rules.specs.Card.{Card, spanCount, startOf, finishOf, leastOf}
 use Rattle.rules.specs.Edges.{edge, Rule, rule-N, rule-U, rule-L, rule-X, rule-R, Early, Released}
 use Rattle.explain.specs.declared.work.Best.{Best}
 use Rattle.explain.specs.Columns.{at, columns, waitOf, headOf, kindOf, letterOf, lowerOf, way}
-use Rattle.explain.specs.Working.{CoveredAt}
+use Rattle.explain.specs.Working.{CoveredAt, Covered, columnAt}
 use Rattle.explain.proofs.Columns.{head-point, head-wait, kind-point, kind-wait, letter-point, letter-wait, lower-point, lower-wait, column-is}
 
 module _ (card : Card) where
@@ -66,6 +67,21 @@ module _ (card : Card) where
       ⊎-elim
       (λ l. subst (λ z. CoveredAt card e Plain p z w) (head-point card x l) (subst (λ k. CoveredAt card e k p (headOf card x) w) (kind-point card x l) c))
       (λ y. subst (λ z. at e p z ≤ℤ w) (sym (y .2)) (subst (λ k. CoveredAt card e k p (headOf card x) w) (ap (kindOf card) (y .2) ∙ kind-wait card (y .0)) c))
+      (column-is card x h)
+
+  -- so is an edge of the same kind and points
+  pub same-way : (e : List Best) (f : Edge) (p x : ℕ) → x < columns card → Covered card e f → f .kind ≡ kindOf card x → f .source ≡ p → f .target ≡ headOf card x → at e p x ≤ℤ f .weight
+  same-way e f p x h c k a t =
+      let z = subst (λ k. CoveredAt card e k (f .source) (f .target) (f .weight)) k c in
+      let y = subst (λ a. CoveredAt card e (kindOf card x) a (f .target) (f .weight)) a z in
+      covered-way e p x (f .weight) h (subst (λ t. CoveredAt card e (kindOf card x) p t (f .weight)) t y)
+
+  -- the column of an edge of column x is x
+  pub column-back : (x : ℕ) → x < columns card → columnAt card (kindOf card x) (headOf card x) ≡ Some x
+  column-back x h =
+      ⊎-elim
+      (λ l. subst (λ k. columnAt card k (headOf card x) ≡ Some x) (sym (kind-point card x l)) (ap Some (head-point card x l)))
+      (λ y. subst (λ k. columnAt card k (headOf card x) ≡ Some x) (sym (ap (kindOf card) (y .2) ∙ kind-wait card (y .0))) (ap Some (sym (y .2))))
       (column-is card x h)
 
   pub way-covered : (e : List Best) (p x : ℕ) (w : ℤ) → x < columns card → at e p x ≤ℤ w → CoveredAt card e (kindOf card x) p (headOf card x) w

@@ -7,3 +7,4 @@ pub mod Chaining
 pub mod Spanning
 pub mod Closed
 pub mod Loading
+pub mod Testing

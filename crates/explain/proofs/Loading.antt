@@ -30,7 +30,7 @@ use Rattle.explain.specs.declared.work.Best.{Best}
 use Rattle.explain.specs.Columns.{no-best, best, at, columns, waitOf, headOf, kindOf, way}
 use Rattle.explain.specs.Working.{Stands, CoveredAt, Covered, columnAt, Blank, Loaded}
 use Rattle.explain.proofs.Columns.{head-point, head-wait, point-column, wait-column, best-put}
-use Rattle.explain.proofs.Joining.{way-point, way-wait, covered-way, way-covered}
+use Rattle.explain.proofs.Joining.{way-point, way-wait, way-covered}
 use Rattle.explain.proofs.Holding.{point-room, column-room, horizon-in, lowered, covered-still}
 
 -- ---- an empty table
@@ -96,7 +96,7 @@ module _ (n : Network) where
     source-in = lp; column-in = point-column m q lq; is = way-point m p q w lq; apart = λ z. ne (z ∙ head-point m q lq); low = low; high = high;
   }
 
-  some-same : {a b : ℕ} → Some a ≡ Some b → a ≡ b
+  pub some-same : {a b : ℕ} → Some a ≡ Some b → a ≡ b
   some-same {a} {b} q = cc
 
   pub of-column : {f : Edge} → Given m f → (x : ℕ) → columnAt m (f .kind) (f .target) ≡ Some x → OfColumn f x
