@@ -223,3 +223,6 @@ found-edge es i f r lt q s = let a = edge-some es i (getD es i no-edge) lt refl 
 
 pub edge-there : (es : List Edge) (i : ℕ) (r : Option Edge) → i < length es → r ≡ edgeAt es i → r ≡ None → {A : Type 0} → A
 edge-there es i r lt q s = let a = edge-some es i (getD es i no-edge) lt refl in let z : _≡_ {A = ℕ} 0 1 = cc in absurd (omega arith)
+
+pub some-none : {A : Type 0} {x : ℕ} → None ≡ Some x → A
+some-none {A} {x} q = let z : _≡_ {A = ℕ} 0 1 = cc in absurd (omega arith)
