@@ -13,7 +13,7 @@ use Rattle.rules.specs.Game.{Good}
 use Rattle.rules.specs.Steps.{Answer, passes, unlawful, no-loop, Reads}
 use Rattle.rules.proofs.Listed.{lists-tell}
 use Rattle.steps.specs.Reading.{ReadAs, told}
-use Rattle.card.specs.Promises.{Passing-tells}
+use Rattle.card.specs.Promises.{Passing-tells, Built}
 
 passes-if-told : (card : Card) (steps : List Step) (x : Answer) → Reads card steps x → told x ≡ Ok tt → Reads card steps passes
 passes-if-told card steps passes h q = h
@@ -23,3 +23,7 @@ passes-if-told card steps no-loop h q = let z : _≡_ {A = ℕ} 0 1 = cc in absu
 pub passing-tells : (card : Card) → WellMade card → (steps : List Step) (answer : Result (Unit {0}) Refusal) → ReadAs card steps answer → Passing-tells card answer
 passing-tells card made steps answer r q calls e good =
     lists-tell card made steps (passes-if-told card steps (r .means) (r .reads) (sym (r .is) ∙ q)) (subst Good (ap card-of e) good)
+
+-- what holds of a card holds of it whatever calls built it
+pub for-built : (card : Card) (Promise : Card → Type 0) → Promise card → Built card Promise
+for-built card Promise h calls e = subst Promise (sym (ap card-of e)) h

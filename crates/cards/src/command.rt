@@ -1,8 +1,8 @@
 //! A line of a script, read.
 use crate::numbers::read_number;
 use crate::numbers::to_i16;
-use crate::numbers::to_u16;
 use crate::numbers::to_u8;
+use crate::numbers::to_u16;
 use rules::parts::Tie;
 
 /// What a line asks for.

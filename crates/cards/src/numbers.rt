@@ -15,12 +15,17 @@ pub fn read_number(word: &str) -> Option<i64> {
     for digit in digits {
         match *digit {
             b'0'..=b'9' => {
-                size = size.saturating_mul(10).saturating_add(i64::from(*digit - b'0'));
+                size = size.saturating_mul(10)
+                    .saturating_add(i64::from(*digit - b'0'));
             }
             _ => return None,
         }
     }
-    Some(if negative { size.saturating_neg() } else { size })
+    Some(if negative {
+        size.saturating_neg()
+    } else {
+        size
+    })
 }
 
 // An argument that a number does not fit becomes one that the call refuses.

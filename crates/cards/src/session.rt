@@ -70,7 +70,12 @@ fn answer_point(
     }
 }
 
-fn open(rt: &LibcRuntime, card: &mut OpenCard, names: &mut Names, horizon: u16) -> Result<(), AnyError> {
+fn open(
+    rt: &LibcRuntime,
+    card: &mut OpenCard,
+    names: &mut Names,
+    horizon: u16,
+) -> Result<(), AnyError> {
     match card.open(horizon) {
         Ok(()) => {
             names.list.clear();

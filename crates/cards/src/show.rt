@@ -11,7 +11,11 @@ fn name_of(names: &[String], point: usize) -> &str {
 
 fn show_points(rt: &LibcRuntime, network: &Network, names: &[String]) -> Result<(), AnyError> {
     for point in 0..network.points() {
-        let kind = if network.is_finish(point as u8) { "finish" } else { "order" };
+        let kind = if network.is_finish(point as u8) {
+            "finish"
+        } else {
+            "order"
+        };
         let name = name_of(names, point);
         if name.is_empty() {
             println!(rt, "point {point} {kind}")?;
@@ -28,12 +32,20 @@ pub fn show_card(rt: &LibcRuntime, network: &Network, names: &[String]) -> Resul
     show_points(rt, network, names)?;
     for s in 0..network.span_count() {
         if let Some(span) = network.span(s) {
-            println!(rt, "span {s} from {} to {} least {} most {}", span.start, span.finish, span.least, span.most)?;
+            println!(
+                rt,
+                "span {s} from {} to {} least {} most {}",
+                span.start, span.finish, span.least, span.most
+            )?;
         }
     }
     for i in 0..network.tie_count() {
         if let Some(tie) = network.tie(i) {
-            println!(rt, "tie {i} from {} to {} gap {}", tie.from, tie.to, tie.gap)?;
+            println!(
+                rt,
+                "tie {i} from {} to {} gap {}",
+                tie.from, tie.to, tie.gap
+            )?;
         }
     }
     Ok(())

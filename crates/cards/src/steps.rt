@@ -25,11 +25,18 @@ fn read_letter(word: &str) -> Option<u8> {
 }
 
 /// The step of three words, with the edge that it makes after these steps.
-fn read_step(card: &ClosedCard, steps: &[Step], letter: &str, left: &str, right: &str) -> Option<Step> {
+fn read_step(
+    card: &ClosedCard,
+    steps: &[Step],
+    letter: &str,
+    left: &str,
+    right: &str,
+) -> Option<Step> {
     let letter = read_letter(letter)?;
     let left = to_u32(read_number(left)?);
     let right = to_u32(read_number(right)?);
-    let makes = card.next_edge(steps, letter, left, right).unwrap_or(ANY_EDGE);
+    let makes = card.next_edge(steps, letter, left, right)
+        .unwrap_or(ANY_EDGE);
     Some(Step {
         letter,
         left,
@@ -39,7 +46,11 @@ fn read_step(card: &ClosedCard, steps: &[Step], letter: &str, left: &str, right:
 }
 
 /// Reads the words after the first as steps; none where a word is missing or malformed.
-fn read_list(rt: &LibcRuntime, card: &ClosedCard, words: &[&str]) -> Result<Option<Vec<Step>>, AnyError> {
+fn read_list(
+    rt: &LibcRuntime,
+    card: &ClosedCard,
+    words: &[&str],
+) -> Result<Option<Vec<Step>>, AnyError> {
     let mut steps = Vec::new(rt.alloc());
     if words.len() % 3 != 1 {
         return Ok(None);

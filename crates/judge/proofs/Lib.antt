@@ -1,0 +1,7 @@
+pub mod Writing
+pub mod Heights
+pub mod Deriving
+pub mod Holding
+pub mod Chaining
+pub mod Beginning
+pub mod Telling

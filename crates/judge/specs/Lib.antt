@@ -1,1 +1,3 @@
 pub mod Closures
+pub mod Closing
+pub mod Marks

@@ -12,7 +12,7 @@ use lib.ListN.{length, getD, set, take, length-set}
 use lib.Seq.{getD-set-same, getD-set-other}
 use Rattle.std.proofs.shelf.Ways.{tells}
 use Rattle.std.proofs.shelf.Signed.{ints}
-use Rattle.std.proofs.shelf.Lists.{take-more-set}
+use Rattle.std.proofs.shelf.Lists.{take-more-set, set-set, set-getD}
 use Rattle.std.specs.declared.option.Option.{Option}
 use Rattle.std.specs.declared.option.Option.the-variants.{Some, None}
 use Rattle.std.specs.declared.result.Result.the-variants.{Ok, Err}
@@ -25,7 +25,7 @@ use Rattle.rules.specs.Calls.{span-fault, try-fault, tie-fault, tie-answer, ans
 use Rattle.network.specs.declared.content.Content.{Content}
 use Rattle.network.specs.declared.network.Network.{Network}
 use Rattle.network.specs.Model.{model}
-use Rattle.network.specs.Kept.{Counts, Lengths, Lasts, SpansLast, Leads, SpansLead, SpansRise, Joins, TiesJoin, Near, TiesNear}
+use Rattle.network.specs.Kept.{Counts, Lengths, Lasts, SpansLast, Leads, SpansLead, SpansRise, Joins, TiesJoin, Near, TiesNear, Kept, counted, with-spare}
 use Rattle.network.proofs.Parts.{span-count, tie-count}
 
 pub span-free : (card : Card) (a l u : ℕ) → span-fault card a l u ≡ None
@@ -60,16 +60,19 @@ rise-set xs n y rise room above =
 
 -- ---- the whole content, in the form in which a network's ghost fields are asked for
 
-abbrev pub Kept : Content → Type 0
-Kept c = Counts c × (Lengths c × (SpansLast c × (SpansLead c × (SpansRise c × (TiesJoin c × (TiesNear c × Unit {0}))))))
-
 -- one span more
 abbrev pub span-pushed : Content → Span → Content
 span-pushed c y = record { horizon = c .horizon; points = c .points + 1; spanned = c .spanned + 1; spans = set (c .spans) (c .spanned) y; tied = c .tied; ties = c .ties }
 
 -- one tie more
 abbrev pub tie-pushed : Content → Tie → Content
-tie-pushed c t = record { horizon = c .horizon; points = c .points; spanned = c .spanned; spans = c .spans; tied = c .tied + 1; ties = set (c .ties) (c .tied) t }
+tie-pushed c t = counted (with-spare c t)
+
+-- a tie that was on trial leaves the content as it was
+pub restored : (c : Content) (t : Tie) → with-spare (with-spare c t) (getD (c .ties) (c .tied) no-tie) ≡ c
+restored c t =
+    ap (λ (ts : List Tie). let r : Content = record { horizon = c .horizon; points = c .points; spanned = c .spanned; spans = c .spans; tied = c .tied; ties = ts } in r)
+    (set-set (c .ties) (c .tied) t (getD (c .ties) (c .tied) no-tie) ∙ set-getD (c .ties) (c .tied) no-tie)
 
 module _ (n : Network) where
   pub span-kept : (a l u : ℕ) → span-fault (model (n .content)) a l u ≡ None → Kept (span-pushed (n .content) (record { start = a; finish = n .content .points; least = l; most = u }))

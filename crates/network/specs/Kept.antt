@@ -1,7 +1,7 @@
 -- What every card keeps, as facts over its content.
-use Prim.Native.Nat.{ℕ, _≤_, _<_}
+use Prim.Native.Nat.{ℕ, _+_, _≤_, _<_}
 use mathlib.Core.Path.{_≡_}
-use lib.ListN.{length, getD}
+use lib.ListN.{length, getD, set}
 use lib.IntN.{pos, negsuc}
 use lib.Signed.{_≤ℤ_}
 use Rattle.rules.specs.declared.parts.Span.{Span}
@@ -48,3 +48,15 @@ Near t = (negsuc 1439 ≤ℤ t .gap) × (t .gap ≤ℤ pos 1440)
 
 abbrev pub TiesNear : Content → Type 0
 TiesNear c = (i : ℕ) → i < c .tied → Near (getD (c .ties) i no-tie)
+
+-- all of it
+abbrev pub Kept : Content → Type 0
+Kept c = Counts c × (Lengths c × (SpansLast c × (SpansLead c × (SpansRise c × (TiesJoin c × (TiesNear c × Unit {0}))))))
+
+-- the content with the tie in its next place among its ties
+abbrev pub counted : Content → Content
+counted c = record { horizon = c .horizon; points = c .points; spanned = c .spanned; spans = c .spans; tied = c .tied + 1; ties = c .ties }
+
+-- the content with another tie in its next place
+abbrev pub with-spare : Content → Tie → Content
+with-spare c t = record { horizon = c .horizon; points = c .points; spanned = c .spanned; spans = c .spans; tied = c .tied; ties = set (c .ties) (c .tied) t }

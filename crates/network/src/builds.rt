@@ -1,7 +1,8 @@
 //! What building calls make of a network.
 ghost use mathlib.Core.Path.{_≡_};
 ghost use Prim.Native.Nat.{_≤_};
-ghost use Rattle.rules.specs.Calls.{fresh, open-answer, opened, order-answer, ordered, span-fault, span-answer, spanned, try-fault, tie-answer, tied};
+ghost use Rattle.rules.specs.Calls.{fresh, open-answer, opened, order-answer, ordered, span-fault, span-answer, spanned, among-fault, try-fault, tie-answer, tied, with-horizon};
+ghost use Rattle.network.specs.Kept.{Kept, counted};
 ghost use Rattle.network.specs.Model.{model};
 use crate::content::Content;
 use crate::network::Network;
@@ -21,6 +22,22 @@ const NO_TIE: Tie = Tie {
     to: 0,
     gap: 0,
 };
+
+/// Why a tie is refused among so many points, if it is.
+pub fn among_fault(points: usize, tie: Tie) -> Option<Refusal>
+    ensures { λ r. ⌜ r ≡ among-fault points tie ⌝ }
+{
+    if usize::from(tie.from) >= points || usize::from(tie.to) >= points {
+        return Some(Refusal::NoPoint);
+    }
+    if tie.from == tie.to {
+        return Some(Refusal::SamePoint);
+    }
+    if tie.gap < -1440 || tie.gap > 1440 {
+        return Some(Refusal::GapRange);
+    }
+    None
+}
 
 impl Network {
     /// Point 0 alone.
@@ -112,17 +129,7 @@ impl Network {
     pub fn try_fault(&self, tie: Tie) -> Option<Refusal>
         ensures { λ r. ⌜ r ≡ try-fault (model (now (self .entry) .content)) tie ⌝ }
     {
-        let points = self.content.points;
-        if usize::from(tie.from) >= points || usize::from(tie.to) >= points {
-            return Some(Refusal::NoPoint);
-        }
-        if tie.from == tie.to {
-            return Some(Refusal::SamePoint);
-        }
-        if tie.gap < -1440 || tie.gap > 1440 {
-            return Some(Refusal::GapRange);
-        }
-        None
+        among_fault(self.content.points, tie)
     }
 
     /// The next tie.
@@ -140,5 +147,25 @@ impl Network {
         self.content.ties[at] = tie;
         self.content.tied = at + 1;
         Ok(at)
+    }
+
+    /// The same network with another horizon.
+    pub fn with_horizon(&self, horizon: u16) -> Network
+        requires { ⌜ 1 ≤ horizon ⌝ ∗ ⌜ horizon ≤ 1440 ⌝ }
+        ensures { λ r. ⌜ model (r .content) ≡ with-horizon (model (now (self .entry) .content)) horizon ⌝ }
+    {
+        let mut content = self.content;
+        content.horizon = horizon;
+        Network { content }
+    }
+
+    /// The network of a content with the tie in its next place, which is on trial, among its ties.
+    pub fn on_trial(content: &Content) -> Network
+        requires { ⌜ Kept (counted (now content)) ⌝ }
+        ensures { λ r. ⌜ r .content ≡ counted (now (content .entry)) ⌝ }
+    {
+        let mut content = *content;
+        content.tied += 1;
+        Network { content }
     }
 }

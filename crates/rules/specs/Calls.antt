@@ -35,12 +35,16 @@ span-fault card start least most =
     (cond (leb 32 (card .points)) (Some PointsFull)
     (cond (leb 8 (spanCount card)) (Some SpansFull) None))))
 
--- a tie that is tried
-abbrev pub try-fault : Card → Tie → Option Refusal
-try-fault card tie =
-    cond (leb (card .points) (tie .from) || leb (card .points) (tie .to)) (Some NoPoint)
+-- a tie among so many points
+abbrev pub among-fault : ℕ → Tie → Option Refusal
+among-fault points tie =
+    cond (leb points (tie .from) || leb points (tie .to)) (Some NoPoint)
     (cond (eqb (tie .from) (tie .to)) (Some SamePoint)
     (cond (ltZ (tie .gap) (negsuc 1439) || ltZ (pos 1440) (tie .gap)) (Some GapRange) None))
+
+-- a tie that is tried
+abbrev pub try-fault : Card → Tie → Option Refusal
+try-fault card tie = among-fault (card .points) tie
 
 -- the first refusal of two
 abbrev pub or-else : Option Refusal → Option Refusal → Option Refusal
@@ -72,6 +76,10 @@ with-span card start least most = record {
 
 abbrev pub with-tie : Card → Tie → Card
 with-tie card tie = record { horizon = card .horizon; points = card .points; spans = card .spans; ties = card .ties ++ (tie ∷ []) }
+
+-- the same card with another horizon
+abbrev pub with-horizon : Card → ℕ → Card
+with-horizon card h = record { horizon = h; points = card .points; spans = card .spans; ties = card .ties }
 
 -- ---- what a call answers, and what stands after it, refused or not
 

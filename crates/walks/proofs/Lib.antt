@@ -1,0 +1,4 @@
+pub mod Bests
+pub mod Tables
+pub mod Walking
+mod Wholes

@@ -1,0 +1,4 @@
+pub mod Minutes
+pub mod Pairs
+pub mod Tables
+pub mod Walks
