@@ -8,3 +8,4 @@ pub mod Spanning
 pub mod Closed
 pub mod Loading
 pub mod Testing
+pub mod Answering

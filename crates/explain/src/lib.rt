@@ -1,4 +1,5 @@
 //! Why a card is bad: a list of steps that ends in a negative loop.
+pub mod explaining;
 pub mod given;
 pub mod relaxes;
 pub mod rounds;
