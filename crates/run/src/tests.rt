@@ -28,10 +28,13 @@ fn hears_before_it_orders() -> Result<(), Fail> {
     let mut run = Run::begin(card.close());
     let mut kitchen = Noted::new(&[2])?;
     let mut list = [9; 32];
-    let mut counts = [0; 5];
-    for t in 0..5 {
-        counts[t] = run.play(&mut kitchen, &mut list)?;
-    }
+    let counts = [
+        run.play(&mut kitchen, &mut list)?,
+        run.play(&mut kitchen, &mut list)?,
+        run.play(&mut kitchen, &mut list)?,
+        run.play(&mut kitchen, &mut list)?,
+        run.play(&mut kitchen, &mut list)?,
+    ];
     check_eq(counts, [1, 0, 2, 0, 0])?;
     check_eq([list[0], list[1], list[2]], [1, 2, 9])?;
     check_eq(
