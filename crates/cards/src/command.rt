@@ -1,10 +1,14 @@
 //! A line of a script, read.
 use crate::numbers::read_number;
 use crate::numbers::to_i16;
+use crate::numbers::to_places;
 use crate::numbers::to_u8;
 use crate::numbers::to_u16;
 use crate::numbers::to_u64;
 use rules::parts::Tie;
+
+/// The places of a list of steps, where none are asked for.
+const EXPLAIN_PLACES: u32 = 4096;
 
 /// What a line asks for.
 #[derive(Clone, Copy)]
@@ -24,6 +28,8 @@ pub enum Command<'a> {
     Check,
     Try(Tie),
     Stretch,
+    /// In a list of so many places.
+    Explain(u32),
     Begin,
     /// So many minutes, or all that are left.
     Play(Option<u64>),
@@ -93,6 +99,15 @@ fn read_try<'a>(words: &[&'a str]) -> Option<Command<'a>> {
     within(words, 4, Command::Try(tie))
 }
 
+/// `explain` or `explain N`.
+fn read_explain<'a>(words: &[&'a str]) -> Option<Command<'a>> {
+    let places = match word(words, 1) {
+        None => EXPLAIN_PLACES,
+        Some(count) => to_places(read_number(count)?),
+    };
+    within(words, 2, Command::Explain(places))
+}
+
 /// `play`, `play N` or `play all`.
 fn read_play<'a>(words: &[&'a str]) -> Option<Command<'a>> {
     let minutes = match word(words, 1) {
@@ -129,6 +144,7 @@ pub fn read_command<'a>(words: &[&'a str]) -> Command<'a> {
         "check" => within(words, 1, Command::Check),
         "try" => read_try(words),
         "stretch" => within(words, 1, Command::Stretch),
+        "explain" => read_explain(words),
         "begin" => within(words, 1, Command::Begin),
         "play" => read_play(words),
         "ask" => read_ask(words),

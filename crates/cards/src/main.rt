@@ -1,5 +1,6 @@
 //! Timing cards by a script: a command a line on standard input, an answer a line on standard output.
 mod command;
+mod explaining;
 mod judging;
 mod kitchens;
 mod numbers;

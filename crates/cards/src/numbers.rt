@@ -65,3 +65,11 @@ pub fn to_u64(number: i64) -> u64 {
         Err(_) => 0,
     }
 }
+
+/// The places of a list: none for a negative number, and never more than an explanation can fill.
+pub fn to_places(number: i64) -> u32 {
+    match u32::try_from(number.min(6_637_824)) {
+        Ok(x) => x,
+        Err(_) => 0,
+    }
+}

@@ -1,5 +1,6 @@
 //! The card that a script works on, and the answers to its commands.
 use crate::command::Command;
+use crate::explaining::explain;
 use crate::judging::check;
 use crate::judging::stretch;
 use crate::judging::try_tie;
@@ -149,6 +150,7 @@ fn on_closed(
         Command::Check => check(rt, &card)?,
         Command::Try(tie) => try_tie(rt, &mut card, tie)?,
         Command::Stretch => stretch(rt, &card)?,
+        Command::Explain(places) => explain(rt, &card, places as usize)?,
         Command::Begin => return begin(rt, card),
         Command::Show => show_card(rt, card.network(), names.list.as_slice())?,
         _ => return not_now(rt, Held::Closed(card)),

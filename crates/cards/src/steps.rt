@@ -9,7 +9,7 @@ use rules::edges::Step;
 use std::error::AnyError;
 
 /// What stands for the edge of a step that is unlawful whatever it makes.
-const ANY_EDGE: Edge = Edge {
+pub const ANY_EDGE: Edge = Edge {
     kind: Kind::Plain,
     source: 0,
     target: 0,
