@@ -18,7 +18,7 @@ at-requires c κs = (point-room (c .args .network .now) _ (c .pre .point), targe
 pub at-back-requires : need.at-back-requires
 at-back-requires c κs =
     let n = c .args .network .now in
-    (omega (arith, c .head .ensures, point-room n _ (head-in n (c .args .x) (c .pre .target))), point-room n _ (c .pre .point))
+    (omega (arith, c .head .ensures, point-room n _ (head-in n (c .args .x) (c .pre .target))), omega (arith, point-room n _ (c .pre .point)))
 
 pub add-weight : need.add-weight
 add-weight c =

@@ -18,7 +18,7 @@ returns-in-Some c =
     record {
       mark = fault;
       built = for-built card (λ k. Tried k (c .args .tie) (Err (c .in-Some .fault))) fault;
-      kept = c .drop-trial .ensures ∙ restored (n .content) (c .args .tie);
+      kept = c .drop-trial .ensures ∙ restored (n .content) _;
     }
 
 pub on-trial-network-requires : need.on-trial-network-requires
@@ -34,5 +34,5 @@ returns c =
     record {
       mark = (free, right);
       built = for-built card (λ k. Tried k (c .args .tie) (Ok (c .mark-of .result))) (free, right);
-      kept = c .drop-trial-2 .ensures ∙ restored (n .content) (c .args .tie);
+      kept = c .drop-trial-2 .ensures ∙ restored (n .content) _;
     }
