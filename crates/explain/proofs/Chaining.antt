@@ -83,6 +83,7 @@ module _ (card : Card) where
       either true false u v q = subst (λ z. height z < height (w .best)) (sym (v .same refl .0)) (u .less refl)
       either false true u v q = subst (λ z. height (w″ .best) < height z) (u .same refl .0) (v .less refl)
       either false false u v q = absurd (false≢true q)
+
       both : (b b′ : Bool) → Went card w l w′ l′ P b → Went card w′ l′ w″ l″ Q b′ → b || b′ ≡ false → (w″ .best ≡ w .best) × R
       both true true u v q = absurd (true≢false q)
       both true false u v q = absurd (true≢false q)

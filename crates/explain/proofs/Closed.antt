@@ -28,7 +28,7 @@ use Rattle.explain.proofs.Columns.{head-point, head-wait, point-column, wait-c
 use Rattle.explain.proofs.Holding.{given-covered, home, late, near-at}
 
 module _ (n : Network) (work : Work) (steps : List Step) (h : Holds (model (n .content)) work steps) (rounded : Rounded (model (n .content)) (work .best))
-  (by-first : Below (model (n .content) .points) (λ p. Below (columns (model (n .content))) (Rule-N (model (n .content)) (work .best) p 0))) where
+    (by-first : Below (model (n .content) .points) (λ p. Below (columns (model (n .content))) (Rule-N (model (n .content)) (work .best) p 0))) where
   abbrev m : Card
   m = model (n .content)
 
@@ -58,20 +58,21 @@ module _ (n : Network) (work : Work) (steps : List Step) (h : Holds (model (n .c
 
   -- every plain entry is a known edge, or leads from a point to itself
   present : (p q : ℕ) → p < m .points → q < m .points → p ≢ q → Present m e p q
-  present p q lp lq apart =
-      (λ z. apart (z ∙ head-point m q lq),
-      elim (ℕ-discrete p 0) [
-        | yes z ↦ subst (λ k. at e k q ≤ℤ pos (m .horizon)) (sym z) (late n work steps h q lq)
-        | no np ↦ elim (ℕ-discrete q 0) [
-          | yes z ↦ let y = ap (at e p) z in omega (arith, ints, y, home n work steps h p lp)
-          | no nq ↦
-              let l0 : 0 < m .points = omega arith in
-              let a = home n work steps h p lp in
-              let b = late n work steps h q lq in
-              let r = by-first p lp q (point-column m q lq) (λ z. np (z ∙ head-point m 0 l0), omega (arith, ints, a)) (λ z. nq (sym (z ∙ head-point m q lq)), b) in
-              omega (arith, ints, r, a, b)
-        ]
-      ])
+  present p q lp lq apart = (
+    λ z. apart (z ∙ head-point m q lq),
+    elim (ℕ-discrete p 0) [
+      | yes z ↦ subst (λ k. at e k q ≤ℤ pos (m .horizon)) (sym z) (late n work steps h q lq)
+      | no np ↦ elim (ℕ-discrete q 0) [
+        | yes z ↦ let y = ap (at e p) z in omega (arith, ints, y, home n work steps h p lp)
+        | no nq ↦
+            let l0 : 0 < m .points = omega arith in
+            let a = home n work steps h p lp in
+            let b = late n work steps h q lq in
+            let r = by-first p lp q (point-column m q lq) (λ z. np (z ∙ head-point m 0 l0), omega (arith, ints, a)) (λ z. nq (sym (z ∙ head-point m q lq)), b) in
+            omega (arith, ints, r, a, b)
+      ]
+    ],
+  )
 
   N : (p q r : ℕ) → p < m .points → q < m .points → r < m .points → D p r ≤ℤ (D p q +ℤ D q r)
   N p q r lp lq lr = elim (ℕ-discrete p q) [

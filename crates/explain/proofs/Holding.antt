@@ -131,8 +131,8 @@ went-none card work steps h R r = record { holds = h; onward = onward-none (work
 -- ---- a better edge
 
 module _ (n : Network) (work : Work) (steps : List Step) (h : Holds (model (n .content)) work steps) (p x : ℕ) (lp : p < model (n .content) .points) (lx : x < columns (model (n .content)))
-  (s : Step) (is : s .makes ≡ way (model (n .content)) p x (s .makes .weight)) (law : LawfulStep (model (n .content)) (known (model (n .content)) steps (work .count)) s)
-  (less : s .makes .weight <ℤ at (work .best) p x) (apart : p ≢ headOf (model (n .content)) x) (low : negℤ (pos (model (n .content) .horizon)) ≤ℤ s .makes .weight) (room : work .count < length steps) where
+    (s : Step) (is : s .makes ≡ way (model (n .content)) p x (s .makes .weight)) (law : LawfulStep (model (n .content)) (known (model (n .content)) steps (work .count)) s)
+    (less : s .makes .weight <ℤ at (work .best) p x) (apart : p ≢ headOf (model (n .content)) x) (low : negℤ (pos (model (n .content) .horizon)) ≤ℤ s .makes .weight) (room : work .count < length steps) where
   abbrev m : Card
   m = model (n .content)
 
@@ -224,6 +224,7 @@ module _ (n : Network) (work : Work) (steps : List Step) (h : Holds (model (n .c
     where
       in-table : p * 40 + x < length (work .best)
       in-table = omega (arith, h .size, point-room n p lp, column-room n x lx)
+
       covers-next : Covers m e′ (es ++ (made ∷ []))
       covers-next i lt = elim (ℕ-discrete i (length es)) [
         | yes q ↦ subst (Covered m e′) (sym (getD-push es made no-edge i (sym q))) (way-covered m e′ p x v lx (omega (arith, ints, ap (λ z. z .weight) (getD-set-same (work .best) (p * 40 + x) b no-best in-table))))

@@ -93,7 +93,12 @@ module _ (n : Network) where
 
   plainly : (p q : ℕ) (w : ℤ) → p < m .points → q < m .points → p ≢ q → negsuc 1439 ≤ℤ w → w ≤ℤ pos 1440 → OfColumn (edge Plain p q w) q
   plainly p q w lp lq ne low high = record {
-    source-in = lp; column-in = point-column m q lq; is = way-point m p q w lq; apart = λ z. ne (z ∙ head-point m q lq); low = low; high = high;
+    source-in = lp;
+    column-in = point-column m q lq;
+    is = way-point m p q w lq;
+    apart = λ z. ne (z ∙ head-point m q lq);
+    low = low;
+    high = high;
   }
 
   pub some-same : {a b : ℕ} → Some a ≡ Some b → a ≡ b
@@ -152,12 +157,13 @@ module _ (n : Network) where
       subst (Given m) (s .1 no-edge) (given-at (best e p x .number) (s .0))
 
   pub near-loaded : (e : List Best) (k : ℕ) → Loaded m e k → (p x : ℕ) → p < m .points → x < columns m → (negsuc 1439 ≤ℤ at e p x) × (at e p x ≤ℤ pos 1441)
-  near-loaded e k load p x lp lx =
-      (elim (ℕ-discrete p (headOf m x)) [
-        | yes q ↦ omega (arith, ints, load .self p x lp lx q)
-        | no ne ↦ by-ltZ (pos (m .horizon)) (at e p x) (λ gt. omega (arith, ints, gt)) (λ le. given-range (entry-given e k load p x lp lx ne le) .0)
-      ],
-      omega (arith, ints, load .high p x lp lx, horizon-in n))
+  near-loaded e k load p x lp lx = (
+    elim (ℕ-discrete p (headOf m x)) [
+      | yes q ↦ omega (arith, ints, load .self p x lp lx q)
+      | no ne ↦ by-ltZ (pos (m .horizon)) (at e p x) (λ gt. omega (arith, ints, gt)) (λ le. given-range (entry-given e k load p x lp lx ne le) .0)
+    ],
+    omega (arith, ints, load .high p x lp lx, horizon-in n),
+  )
 
   -- ---- one given edge more
 
@@ -206,14 +212,19 @@ module _ (n : Network) where
         where
           p : ℕ
           p = f .source
+
           b : Best
           b = record { weight = f .weight; number = k }
+
           t : List Best
           t = set e (p * 40 + x) b
+
           in-table : p * 40 + x < length e
           in-table = omega (arith, load .size, point-room n p (of-it .source-in), column-room n x (of-it .column-in))
+
           put : (q y : ℕ) → y < columns m → ((q ≡ p) × (y ≡ x) × (best t q y ≡ b)) ⊎ (best t q y ≡ best e q y)
           put q y ly = best-put e p x b q y (load .size) (point-room n p (of-it .source-in)) (column-room n x (of-it .column-in)) (column-room n y ly)
+
           here : Stands (given m) k (way m p x (f .weight))
           here = (lt, λ d. getD-default (given m) k d no-edge lt ∙ sym (of-it .is))
 

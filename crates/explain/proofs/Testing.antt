@@ -107,7 +107,7 @@ module _ (n : Network) (e : List Best) (load : Loaded (model (n .content)) e (le
         let worth = subst (λ es. Useful m es (way m h p (pos 0 +ℤ pos (m .horizon)))) (sym g) detour-useful in
         let at : steps′ ≡ set steps k (detour-step h p) = list ∙ ap (set steps k) is in
         let es : known m steps′ (work′ .count) ≡ given m ++ (way m h p (pos 0 +ℤ pos (m .horizon)) ∷ []) =
-            (λ i. known m (at i) (count i)) ∙ known-set m steps k (detour-step h p) room ∙ ap (λ l. l ++ (way m h p (pos 0 +ℤ pos (m .horizon)) ∷ [])) g in
+        (λ i. known m (at i) (count i)) ∙ known-set m steps k (detour-step h p) room ∙ ap (λ l. l ++ (way m h p (pos 0 +ℤ pos (m .horizon)) ∷ [])) g in
         let w-is : pos 0 +ℤ pos (m .horizon) ≡ b .weight = omega (arith, ints, bw) in
         let f-is : way m h p (pos 0 +ℤ pos (m .horizon)) ≡ edge Plain h p (b .weight) = way-point m h p (pos 0 +ℤ pos (m .horizon)) lp ∙ ap (edge Plain h p) w-is in (
           subst (Written m steps′) (sym count) (subst (λ l. Written m l (suc k)) (sym at) (written-more m steps k (detour-step h p) room (written-none m steps k z) law worth)),

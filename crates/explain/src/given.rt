@@ -35,7 +35,10 @@ fn blank(network: &Network, k: usize) -> Best
     if head(network, k % 40) != k / 40 {
         return none;
     }
-    Best { weight: 0, number: 0 }
+    Best {
+        weight: 0,
+        number: 0,
+    }
 }
 
 /// The table where no edge is known.
@@ -44,7 +47,10 @@ fn empty(network: &Network) -> Work
     ensures count { λ r. ⌜ r .count ≡ 0 ⌝ }
 {
     let mut work = Work {
-        best: [Best { weight: 0, number: 0 }; 1280],
+        best: [Best {
+            weight: 0,
+            number: 0,
+        }; 1280],
         count: 0,
     };
     for k in 0..1280 {

@@ -72,7 +72,12 @@ fn lower_all(network: &Network, work: &mut Work, list: &mut [Step], s: usize) ->
 }
 
 /// R of span s.
-fn release_all(network: &Network, work: &mut Work, list: &mut [Step], s: usize) -> Result<bool, Stop>
+fn release_all(
+    network: &Network,
+    work: &mut Work,
+    list: &mut [Step],
+    s: usize,
+) -> Result<bool, Stop>
     requires holds { ⌜ Holds (model (now network .content)) (now work) (now list) ⌝ }
     requires place { ⌜ s < spanCount (model (now network .content)) ⌝ }
     ensures { λ r. ⌜ Told (model (now (network .entry) .content)) (now (work .entry)) (now (list .entry)) (now (work .exit)) (now (list .exit)) (Below (model (now (network .entry) .content) .points) (Rule-R (model (now (network .entry) .content)) (now (work .entry) .best) s)) r ⌝ }

@@ -62,14 +62,22 @@ pub fn kind(network: &Network, x: usize) -> Kind
 pub fn letter(network: &Network, x: usize) -> u8
     ensures { λ r. ⌜ r ≡ letterOf (model (now (network .entry) .content)) x ⌝ }
 {
-    if x < network.content.points { b'N' } else { b'U' }
+    if x < network.content.points {
+        b'N'
+    } else {
+        b'U'
+    }
 }
 
 /// The letter of the rule that puts a lower edge before one of the column.
 pub fn lower_letter(network: &Network, x: usize) -> u8
     ensures { λ r. ⌜ r ≡ lowerOf (model (now (network .entry) .content)) x ⌝ }
 {
-    if x < network.content.points { b'L' } else { b'X' }
+    if x < network.content.points {
+        b'L'
+    } else {
+        b'X'
+    }
 }
 
 /// How many columns there are.

@@ -53,7 +53,7 @@ returns-then-edge-at c =
     let s = ap (λ f. at e (f .source) x) f-is in
     let near = near-loaded n e k (c .pre .loaded) (getD (given m) k no-edge .source) x (it .source-in) (it .column-in) in
     let no-better : at e (getD (given m) k no-edge .source) x ≤ℤ getD (given m) k no-edge .weight =
-        omega (arith, ints, c .if-edge-at .taken, ap (λ z. z .weight) (c .at .ensures), s, ap (λ f. f .weight) f-is, it .low, it .high, near .0, near .1) in
+    omega (arith, ints, c .if-edge-at .taken, ap (λ z. z .weight) (c .at .ensures), s, ap (λ f. f .weight) f-is, it .low, it .high, near .0, near .1) in
     record { table = loaded-same n e k (c .pre .loaded) (c .pre .place) (no-worse n e k (c .pre .loaded) (c .pre .place) x col e no-better); count = refl }
 
 pub cast-this : need.cast-this
@@ -83,8 +83,8 @@ returns c =
     let s = ap (λ f. at e (f .source) x) f-is in
     let near = near-loaded n e k (c .pre .loaded) (getD (given m) k no-edge .source) x (it .source-in) (it .column-in) in
     let less : getD (given m) k no-edge .weight <ℤ at e (getD (given m) k no-edge .source) x =
-        omega (arith, ints, c .if-edge-at .left, ap (λ z. z .weight) (c .at .ensures), s, ap (λ f. f .weight) f-is, it .low, it .high, near .0, near .1) in
+    omega (arith, ints, c .if-edge-at .left, ap (λ z. z .weight) (c .at .ensures), s, ap (λ f. f .weight) f-is, it .low, it .high, near .0, near .1) in
     let w : toZ w32 (ofZ w32 (c .in-Some .edge .weight)) ≡ getD (given m) k no-edge .weight = omega (arith, ints, ap (λ f. f .weight) f-is, it .low, it .high) in
     let table : c .put .last .self .best ≡ set e (getD (given m) k no-edge .source * 40 + x) (record { weight = getD (given m) k no-edge .weight; number = k }) =
-        c .put .ensures .table ∙ (λ i. set e (f-is i .source * 40 + x) (record { weight = w i; number = k })) in
+    c .put .ensures .table ∙ (λ i. set e (f-is i .source * 40 + x) (record { weight = w i; number = k })) in
     record { table = subst (λ t. Loaded m t (suc k)) (sym table) (loaded-put n e k (c .pre .loaded) (c .pre .place) x col less); count = c .put .ensures .steps }

@@ -48,7 +48,7 @@ relax-requires c κs =
     let b = c .at-right .ensures in
     let k = c .letter .ensures in
     let is : c .joined-step .result ≡ chain-step m (w .best) p q x =
-        c .joined-step .ensures ∙ (λ i. record { letter = k i; left = a i .number; right = b i .number; makes = way m p x (a i .weight +ℤ b i .weight) }) in
+    c .joined-step .ensures ∙ (λ i. record { letter = k i; left = a i .number; right = b i .number; makes = way m p x (a i .weight +ℤ b i .weight) }) in
     record {
       holds = c .pre .holds;
       place = (c .pre .place .0, c .pre .place .2);

@@ -84,7 +84,7 @@ add-back c =
     let this : Best = record { weight = toZ w32 (ofZ w32 (s .makes .weight)); number = c .given-count .result + w .count } in
     let this-is : this ≡ record { weight = s .makes .weight; number = length (given m) + w .count } = λ i. record { weight = v-is i; number = c .given-count .ensures i + w .count } in
     let table : c .put .last .self .best ≡ set (w .best) (p * 40 + x) (record { weight = s .makes .weight; number = length (given m) + w .count }) =
-        c .put .ensures .table ∙ (λ i. set (put .3 i) (p * 40 + x) (this-is i)) in
+    c .put .ensures .table ∙ (λ i. set (put .3 i) (p * 40 + x) (this-is i)) in
     let count = c .put .ensures .steps ∙ put .2 in
     let b-is : c .at-back .result ≡ best (c .put .last .self .best) (headOf m x) p = c .at-back .ensures ∙ ap (λ h. best (c .put .last .self .best) h p) (c .head-head .ensures) in
     let bw = ap (λ z. z .weight) b-is in
@@ -110,7 +110,7 @@ close-requires c κs =
     let this : Best = record { weight = toZ w32 (ofZ w32 (s .makes .weight)); number = c .given-count .result + w .count } in
     let this-is : this ≡ record { weight = s .makes .weight; number = length (given m) + w .count } = λ i. record { weight = v-is i; number = c .given-count .ensures i + w .count } in
     let table : c .put .last .self .best ≡ set (w .best) (p * 40 + x) (record { weight = s .makes .weight; number = length (given m) + w .count }) =
-        c .put .ensures .table ∙ (λ i. set (put .3 i) (p * 40 + x) (this-is i)) in
+    c .put .ensures .table ∙ (λ i. set (put .3 i) (p * 40 + x) (this-is i)) in
     let count = c .put .ensures .steps ∙ put .2 in
     let b-is : c .at-back .result ≡ best (c .put .last .self .best) (headOf m x) p = c .at-back .ensures ∙ ap (λ h. best (c .put .last .self .best) h p) (c .head-head .ensures) in
     let bw = ap (λ z. z .weight) b-is in
@@ -141,10 +141,13 @@ returns-then-back-weight-lt0 c =
     let this : Best = record { weight = toZ w32 (ofZ w32 (s .makes .weight)); number = c .given-count .result + w .count } in
     let this-is : this ≡ record { weight = s .makes .weight; number = length (given m) + w .count } = λ i. record { weight = v-is i; number = c .given-count .ensures i + w .count } in
     let table : c .put .last .self .best ≡ set (w .best) (p * 40 + x) (record { weight = s .makes .weight; number = length (given m) + w .count }) =
-        c .put .ensures .table ∙ (λ i. set (put .3 i) (p * 40 + x) (this-is i)) in
+    c .put .ensures .table ∙ (λ i. set (put .3 i) (p * 40 + x) (this-is i)) in
     let count = c .put .ensures .steps ∙ put .2 in
-    record { told = ended-after m (w .count) (c .put .last .self .count) (c .close .last .work .count) l (c .write .last .list) (c .close .last .list) (c .close .result)
-    (next-onward n w l (c .pre .holds) p x (c .pre .place .0) (c .pre .place .1) s (c .pre .way) (c .pre .lawful) less apart low (put .0) (c .put .last .self) (c .write .last .list) table count (put .1)) (c .close .ensures); taken = tt }
+    record {
+      told = ended-after m (w .count) (c .put .last .self .count) (c .close .last .work .count) l (c .write .last .list) (c .close .last .list) (c .close .result)
+          (next-onward n w l (c .pre .holds) p x (c .pre .place .0) (c .pre .place .1) s (c .pre .way) (c .pre .lawful) less apart low (put .0) (c .put .last .self) (c .write .last .list) table count (put .1)) (c .close .ensures);
+      taken = tt;
+    }
 
 pub returns : need.returns
 returns c =
@@ -165,7 +168,7 @@ returns c =
     let this : Best = record { weight = toZ w32 (ofZ w32 (s .makes .weight)); number = c .given-count .result + w .count } in
     let this-is : this ≡ record { weight = s .makes .weight; number = length (given m) + w .count } = λ i. record { weight = v-is i; number = c .given-count .ensures i + w .count } in
     let table : c .put .last .self .best ≡ set (w .best) (p * 40 + x) (record { weight = s .makes .weight; number = length (given m) + w .count }) =
-        c .put .ensures .table ∙ (λ i. set (put .3 i) (p * 40 + x) (this-is i)) in
+    c .put .ensures .table ∙ (λ i. set (put .3 i) (p * 40 + x) (this-is i)) in
     let count = c .put .ensures .steps ∙ put .2 in
     let b-is : c .at-back .result ≡ best (c .put .last .self .best) (headOf m x) p = c .at-back .ensures ∙ ap (λ h. best (c .put .last .self .best) h p) (c .head-head .ensures) in
     let bw = ap (λ z. z .weight) b-is in

@@ -53,7 +53,7 @@ relax-requires c κs =
     let k = c .lower-letter .ensures in
     let lw = c .lower-edge-left .ensures .weight in
     let is : c .joined-step .result ≡ lower-step m (w .best) s (c .lower-edge-left .result .number) x =
-        c .joined-step .ensures ∙ (λ i. record { letter = k i; left = c .lower-edge-left .result .number; right = r i .number; makes = way m (st i) x (lw i +ℤ r i .weight) }) in
+    c .joined-step .ensures ∙ (λ i. record { letter = k i; left = c .lower-edge-left .result .number; right = r i .number; makes = way m (st i) x (lw i +ℤ r i .weight) }) in
     let start-in : c .span-at-span .result .start < m .points = omega (arith, st, well-made n .start-in s (c .pre .place .0)) in
     record {
       holds = c .pre .holds;

@@ -54,7 +54,7 @@ relax-requires c κs =
     let st = c .span-at-span .ensures .start in
     let sum : c .in-Some .wait .weight +ℤ pos 0 ≡ at (w .best) p (waitOf m s) = omega (arith, ints, rw′) in
     let is : c .joined-step .result ≡ release-step m (w .best) s p =
-        c .joined-step .ensures ∙ (λ i. record { letter = 82; left = r i .number; right = r i .number; makes = way m p (st i) (sum i) }) in
+    c .joined-step .ensures ∙ (λ i. record { letter = 82; left = r i .number; right = r i .number; makes = way m p (st i) (sum i) }) in
     let start-in : c .span-at-span .result .start < m .points = omega (arith, st, well-made n .start-in s (c .pre .place .0)) in
     record {
       holds = c .pre .holds;

@@ -38,6 +38,6 @@ returns c =
     let p = c .args .p in
     let hz : toZ w32 (n .content .horizon) ≡ pos (m .horizon) = omega (arith, ints, horizon-in n) in
     let is : c .joined-step .result ≡ detour-step n (c .args .work .now .best) (c .pre .loaded) h p =
-        c .joined-step .ensures ∙ (λ i. record { letter = 78; left = 2 * (h - 1) + 1; right = 2 * (p - 1); makes = way m h p (pos 0 +ℤ hz i) }) in
+    c .joined-step .ensures ∙ (λ i. record { letter = 78; left = 2 * (h - 1) + 1; right = 2 * (p - 1); makes = way m h p (pos 0 +ℤ hz i) }) in
     detoured n (c .args .work .now .best) (c .pre .loaded) h p (c .pre .place .0) (c .pre .place .1) (c .pre .place .2) (c .pre .none)
     (c .args .work .now) (c .write .last .work) (c .args .list .now) (c .write .last .list) (c .joined-step .result) _ (c .pre .count) is (c .in-Continue-write .ensures tt) hz (c .given-count .ensures)

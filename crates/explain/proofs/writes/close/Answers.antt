@@ -25,6 +25,6 @@ returns-in-Ok c =
     let l = c .letter .ensures in
     let h = c .head .ensures in
     let is : c .joined-step .result ≡ closing-step m (c .args .x) (c .args .back) (c .args .edge) =
-        c .joined-step .ensures ∙ (λ i. record { letter = l i; left = c .args .back .number; right = c .args .edge .number; makes = way m (h i) (c .args .x) (c .args .back .weight +ℤ c .args .edge .weight) }) in
+    c .joined-step .ensures ∙ (λ i. record { letter = l i; left = c .args .back .number; right = c .args .edge .number; makes = way m (h i) (c .args .x) (c .args .back .weight +ℤ c .args .edge .weight) }) in
     put-loop m (c .args .work .now) (c .write .last .work) (c .args .list .now) (c .write .last .list) (c .joined-step .result) _ (c .in-Ok .ensures tt) is (c .pre .written)
     (closing-lawful m (known m (c .args .list .now) (c .args .work .now .count)) (c .args .p) (c .args .x) (c .args .back) (c .args .edge) (c .pre .place .1) (c .pre .back)) refl (c .pre .back .negative)
