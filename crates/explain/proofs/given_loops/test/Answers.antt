@@ -5,7 +5,7 @@ use lib.ListN.{getD}
 use Rattle.rules.specs.Steps.{given, no-edge}
 use Rattle.network.specs.Model.{model}
 use Rattle.explain.specs.Working.{Tested}
-use Rattle.explain.proofs.tests.test.Needs as need
+use Rattle.explain.proofs.given_loops.test.Needs as need
 
 pub loop-number-again : need.loop-number-again
 loop-number-again c =

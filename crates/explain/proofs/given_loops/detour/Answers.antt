@@ -10,7 +10,7 @@ use Rattle.explain.specs.Columns.{way}
 use Rattle.explain.proofs.Columns.{point-column}
 use Rattle.explain.proofs.Holding.{given-few, horizon-in}
 use Rattle.explain.proofs.Testing.{some-h, some-p, detour-step, detoured}
-use Rattle.explain.proofs.tests.detour.Needs as need
+use Rattle.explain.proofs.given_loops.detour.Needs as need
 
 pub sub-home : need.sub-home
 sub-home c = omega (arith, some-h (c .args .network .now) (c .args .work .now .best) (c .pre .loaded) (c .args .h) (c .args .p) (c .pre .place .0) (c .pre .place .1) (c .pre .place .2) (c .pre .none))

@@ -21,7 +21,7 @@ use Rattle.explain.proofs.Holding.{point-room, column-room, given-few, horizon
 use Rattle.explain.proofs.Ending.{ended-after}
 use Rattle.explain.proofs.Loading.{found-edge, edge-there, some-none}
 use Rattle.explain.proofs.Testing.{it, head-of, near-back, this-stands, back-given, back-detour, tested, written-none}
-use Rattle.explain.proofs.tests.test_edge.Needs as need
+use Rattle.explain.proofs.given_loops.test_edge.Needs as need
 
 pub returns-in-rest : need.returns-in-rest
 returns-in-rest c = edge-there (given (model (c .args .network .now .content))) (c .args .number) (c .given-edge .result) (c .pre .place) (c .given-edge .ensures) (c .in-rest .is)

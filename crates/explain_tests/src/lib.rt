@@ -1,0 +1,2 @@
+//! Small cards explained, and the explanations read back.
+mod tests;
