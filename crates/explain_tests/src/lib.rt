@@ -1,2 +1,0 @@
-//! Small cards explained, and the explanations read back.
-mod tests;
