@@ -1,4 +1,6 @@
 //! Cards as customers hold them: open or closed, each a type of its own, with the calls that each takes.
+#![tactic(auto)]
+
 pub mod building;
 pub mod closed;
 pub mod explaining;

@@ -1,4 +1,6 @@
 //! Timing cards by a script: a command a line on standard input, an answer a line on standard output.
+#![tactic(auto)]
+
 mod command;
 mod explaining;
 mod judging;

@@ -1,4 +1,6 @@
 //! Why a card is bad: a list of steps that ends in a negative loop.
+#![tactic(auto)]
+
 pub mod explaining;
 pub mod given;
 pub mod given_loops;

@@ -1,4 +1,6 @@
 //! The judge of a card: whether the controller can win, with the tables by which it does.
+#![tactic(auto)]
+
 mod begins;
 mod chains;
 pub mod closure;

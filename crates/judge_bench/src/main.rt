@@ -1,5 +1,7 @@
 //! Judges generated cards of full size: 32 points, 8 spans, 96 ties.
 //! The counts of marks go to standard output, and the time to standard error.
+#![tactic(auto)]
+
 ghost use Rattle.std.specs.Prelude.{◌<◌};
 
 use judge::marking::{Mark, mark_of};

@@ -1,4 +1,6 @@
 //! Kitchens: what starts spans and decides when they end.
+#![tactic(auto)]
+
 pub mod contrary;
 pub mod either;
 pub mod interface;

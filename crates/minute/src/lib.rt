@@ -1,4 +1,6 @@
 //! One minute of a run: whether a kitchen can take part, what it ended, which orders are given, which spans start, and the list of events.
+#![tactic(auto)]
+
 pub mod allow;
 pub mod decide;
 pub mod events;

@@ -1,4 +1,6 @@
 //! Edges by number, steps, and the reading of step lists.
+#![tactic(auto)]
+
 pub mod given;
 pub mod joins;
 pub mod prints;

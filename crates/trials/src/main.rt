@@ -1,4 +1,6 @@
 //! Trials of the building calls and of the readers of steps. Each line tells how many expectations hold, and how many fail.
+#![tactic(auto)]
+
 mod calls;
 mod chances;
 mod faults;

@@ -1,5 +1,7 @@
 //! Times the best weights over walks on full tables of 32 points, at either kind of weight.
 //! The counts and sums go to standard output, and the times to standard error.
+#![tactic(auto)]
+
 mod sample;
 
 ghost use Rattle.std.specs.Prelude.{◌/◌, ◌≤◌};
