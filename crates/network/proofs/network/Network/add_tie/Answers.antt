@@ -2,15 +2,26 @@ use Rattle.std.proofs.Common.{sym, ◌∙◌, arith}
 use Rattle.network.proofs.Growing.{tie_kept, tie_full, tie_added}
 use Rattle.network.proofs.network.Network.add_tie.Goals as goal
 
-pub returns-then-at-ge-MAX-TIES : goal.returns-then-at-ge-MAX-TIES
-returns-then-at-ge-MAX-TIES c =
-    let r = tie_full c.args.self.now c.args.tie (sym c.try_fault.ensures ∙ c.in-default.is) c.if-at-ge-MAX-TIES.true in
+pub returns-then-at-ge-MAX_TIES : goal.returns-then-at-ge-MAX_TIES
+returns-then-at-ge-MAX_TIES c =
+    let r = tie_full c.args.self.now c.args.tie (sym c.try_fault.ensures ∙ c.in_default.is) c.if-at-ge-MAX_TIES.true in
     record { answer = r.0; card = r.1 }
 
-pub invariant-of-self : goal.invariant-of-self
-invariant-of-self c = tie_kept c.args.self.now c.args.tie (sym c.try_fault.ensures ∙ c.in-default.is) (omega arith)
+pub invariant_of-self : goal.invariant_of-self
+invariant_of-self c =
+    let k = tie_kept c.args.self.now c.args.tie (sym c.try_fault.ensures ∙ c.in_default.is) (omega arith)
+    in
+    record {
+      counts = k.0;
+      lengths = k.1.0;
+      last = k.1.1.0;
+      lead = k.1.1.1.0;
+      rise = k.1.1.1.1.0;
+      joined = k.1.1.1.1.1.0;
+      near = k.1.1.1.1.1.1.0;
+    }
 
 pub returns : goal.returns
 returns c =
-    let r = tie_added c.args.self.now c.args.tie (sym c.try_fault.ensures ∙ c.in-default.is) c.if-at-ge-MAX-TIES.false in
+    let r = tie_added c.args.self.now c.args.tie (sym c.try_fault.ensures ∙ c.in_default.is) c.if-at-ge-MAX_TIES.false in
     record { answer = r.0; card = r.1 }

@@ -3,8 +3,8 @@ use Rattle.std.proofs.lemmas.Bool.Decides.{nat_tests}
 use Rattle.network.proofs.Parts.{span_count_is}
 use Rattle.network.proofs.network.Network.span_fault.Goals as goal
 
-pub returns-then-self-ge-MAX-SPANS : goal.returns-then-self-ge-MAX-SPANS
-returns-then-self-ge-MAX-SPANS c = let n = span_count_is c.args.self.now in grind (arith, nat_tests)
+pub returns-then-self-ge-MAX_SPANS : goal.returns-then-self-ge-MAX_SPANS
+returns-then-self-ge-MAX_SPANS c = let n = span_count_is c.args.self.now in grind (arith, nat_tests)
 
 pub returns : goal.returns
 returns c = let n = span_count_is c.args.self.now in grind (arith, nat_tests)
