@@ -6,12 +6,12 @@ use Rattle.rules.specs.Edges.{edge}
 use Rattle.steps.proofs.Numbers.{given_long, edge_none, point_some, span_some, tie_some}
 use Rattle.steps.proofs.given.given_edge.Goals as goal
 
-pub returns-then-number-of-points : goal.returns-then-number-of-points
-returns-then-number-of-points c = point_some c.args.network.now c.args.number c.point-edge.result c.if-number-of-points.true c.point-edge.ensures
+pub returns-then-number-of_points : goal.returns-then-number-of_points
+returns-then-number-of_points c = point_some c.args.network.now c.args.number c.point_edge.result c.if-number-of_points.true c.point_edge.ensures
 
-pub returns-then-number-of-points-2 : goal.returns-then-number-of-points-2
-returns-then-number-of-points-2 c =
-    span_some c.args.network.now c.args.number c.span-edge.result c.if-number-of-points.false c.if-number-of-points-2.true c.span-edge.ensures
+pub returns-then-number-of_points-2 : goal.returns-then-number-of_points-2
+returns-then-number-of_points-2 c =
+    span_some c.args.network.now c.args.number c.span_edge.result c.if-number-of_points.false c.if-number-of_points-2.true c.span_edge.ensures
 
 pub returns-then-i-content : goal.returns-then-i-content
 returns-then-i-content c = edge_none _ c.args.number (omega (arith, given_long c.args.network.now))

@@ -30,8 +30,8 @@ returns-in-2 c =
     let s = get_or n.content.spans q no_span in
     rw (span_block n.content q h s refl, c.in-2.is) (ap (edge (Lower q) s.start s.finish) (omega (arith, ints, (n.last q h).1, (n.last q h).2)))
 
-pub returns-in-default : goal.returns-in-default
-returns-in-default c =
+pub returns-in_default : goal.returns-in_default
+returns-in_default c =
     let n = c.args.network.now in
     let q = c.args.number / 4 in
     let h : q < n.content.spanned = omega arith in

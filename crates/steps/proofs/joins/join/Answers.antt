@@ -5,15 +5,15 @@ use Rattle.steps.proofs.joins.join.Goals as goal
 
 pub returns-in-N : goal.returns-in-N
 unfolding makes
-returns-in-N c = let e : c.args.letter ≡ 78 = omega arith in rw e c.join-plain.ensures
+returns-in-N c = let e : c.args.letter ≡ 78 = omega arith in rw e c.join_plain.ensures
 
 pub returns-in-U : goal.returns-in-U
 unfolding makes
-returns-in-U c = let e : c.args.letter ≡ 85 = omega arith in rw e c.join-wait.ensures
+returns-in-U c = let e : c.args.letter ≡ 85 = omega arith in rw e c.join_wait.ensures
 
 pub returns-in-L : goal.returns-in-L
 unfolding makes
-returns-in-L c = let e : c.args.letter ≡ 76 = omega arith in rw e c.lower-plain.ensures
+returns-in-L c = let e : c.args.letter ≡ 76 = omega arith in rw e c.lower_plain.ensures
 
 pub returns-in-X : goal.returns-in-X
 unfolding makes
@@ -29,8 +29,8 @@ returns-in-M c = let e : c.args.letter ≡ 77 = omega arith in rw e c.project.en
 
 pub returns-in-S : goal.returns-in-S
 unfolding makes
-returns-in-S c = let e : c.args.letter ≡ 83 = omega arith in rw e c.join-all-most.ensures
+returns-in-S c = let e : c.args.letter ≡ 83 = omega arith in rw e c.join_all_most.ensures
 
-pub returns-in-default : goal.returns-in-default
+pub returns-in_default : goal.returns-in_default
 unfolding makes
-returns-in-default c = grind (arith, nat_tests)
+returns-in_default c = grind (arith, nat_tests)

@@ -5,4 +5,4 @@ use Rattle.steps.proofs.reads.is_closing.Goals as goal
 
 pub returns : goal.returns
 unfolding step_at
-returns c = closing_if_loop c.args.steps.now c.is-loop.result (omega arith) c.is-loop.ensures
+returns c = closing_if_loop c.args.steps.now c.is_loop.result (omega arith) c.is_loop.ensures

@@ -11,10 +11,10 @@ returns-in-Some c =
     let s = step_at c.args.steps.now c.args.place in
     let h : c.eq.result ≡ true → c.in-Some.edge ≡ s.makes = search rules in
     let k : c.in-Some.edge ≡ s.makes → c.eq.result ≡ true = search rules in
-    lawful_if_same m (known m c.args.steps.now c.args.place) s c.next-edge.result c.next-edge.ensures c.eq.result c.in-Some.edge c.in-Some.is h k
+    lawful_if_same m (known m c.args.steps.now c.args.place) s c.next_edge.result c.next_edge.ensures c.eq.result c.in-Some.edge c.in-Some.is h k
 
 pub returns-in-None : goal.returns-in-None
 unfolding step_at
 returns-in-None c =
     let m = model c.args.network.now.content in
-    unlawful_if_none m (known m c.args.steps.now c.args.place) (step_at c.args.steps.now c.args.place) c.next-edge.result c.next-edge.ensures c.in-None.is
+    unlawful_if_none m (known m c.args.steps.now c.args.place) (step_at c.args.steps.now c.args.place) c.next_edge.result c.next_edge.ensures c.in-None.is

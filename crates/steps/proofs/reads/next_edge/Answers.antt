@@ -5,20 +5,20 @@ use Rattle.steps.specs.Reading.{Makes}
 use Rattle.steps.proofs.Reading.{no_left, no_right, makes_joined}
 use Rattle.steps.proofs.reads.next_edge.Goals as goal
 
-pub returns-in-err-first : goal.returns-in-err-first
-returns-in-err-first c =
+pub returns-in_err-first : goal.returns-in_err-first
+returns-in_err-first c =
     let m = model c.args.network.now.content in
-    rw c.from-residual.ensures (no_left m (known m c.args.steps.now c.args.count) c.args.letter c.args.left c.args.right (sym c.edge-at.ensures ∙ c.in-err-first.was))
+    rw c.from_residual.ensures (no_left m (known m c.args.steps.now c.args.count) c.args.letter c.args.left c.args.right (sym c.edge_at.ensures ∙ c.in_err-first.was))
 
-pub returns-in-err-second : goal.returns-in-err-second
-returns-in-err-second c =
+pub returns-in_err-second : goal.returns-in_err-second
+returns-in_err-second c =
     let m = model c.args.network.now.content in
-    rw c.from-residual-in-err-second.ensures (no_right m (known m c.args.steps.now c.args.count) c.args.letter c.args.left c.args.right (sym c.edge-at-2.ensures ∙ c.in-err-second.was))
+    rw c.from_residual-in_err-second.ensures (no_right m (known m c.args.steps.now c.args.count) c.args.letter c.args.left c.args.right (sym c.edge_at-2.ensures ∙ c.in_err-second.was))
 
 pub returns : goal.returns
 returns c =
     let m = model c.args.network.now.content in
     let es = known m c.args.steps.now c.args.count in
-    let h = c.is-repeated.ensures.0 c.if-not-is-repeated.false in
+    let h = c.is_repeated.ensures.0 c.if-not-is_repeated.false in
     subst (Makes m es c.args.letter c.args.left c.args.right) (sym c.join.ensures)
-    (makes_joined m es c.args.letter c.args.left c.args.right _ _ (sym c.edge-at.ensures ∙ c.in-ok-first.was) (sym c.edge-at-2.ensures ∙ c.in-ok-second.was) h.0 h.1)
+    (makes_joined m es c.args.letter c.args.left c.args.right _ _ (sym c.edge_at.ensures ∙ c.in_ok-first.was) (sym c.edge_at-2.ensures ∙ c.in_ok-second.was) h.0 h.1)

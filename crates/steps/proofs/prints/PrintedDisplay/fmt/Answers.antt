@@ -10,5 +10,5 @@ pub returns-clause-writes : goal.returns-clause-writes
 returns-clause-writes g c = λ p ok.
     let s = c.args.self.now.0 in
     let small : letter_shown s.letter < 128 = grind (arith, nat_tests) in
-    let e : encode c.letter-of-letter.result ≡ letter_shown s.letter ∷ [] = ap encode c.letter-of-letter.ensures ∙ encode_ascii (letter_shown s.letter) small in
+    let e : encode c.letter_of-letter.result ≡ letter_shown s.letter ∷ [] = ap encode c.letter_of-letter.ensures ∙ encode_ascii (letter_shown s.letter) small in
     subst (λ x. HasWritten g.W.Write.write_str_gives c.args.f.now (x ++ (32 ∷ (decimal s.left ++ (32 ∷ decimal s.right)))) c.write.new.self) e (c.write.ensures.writes p ok)
