@@ -101,7 +101,7 @@ fn cross(network: &Network, t: &mut Closure, s: usize, other: usize) -> Result<b
 fn lower_starts(network: &Network, t: &mut Closure, s: usize) -> Result<bool, NegativeLoop>
     requires holds { Holds (model network.now.content) t.old }
     requires span { s < span_count (model network.now.content) }
-    ensures* { λ r. ⌜ Told (model network.now.content) t.old t.new (Below (span_count (model network.now.content)) (λ r. Lowered (model network.now.content) t.old s (Start r))) r ⌝ }
+    ensures { Told (model network.now.content) t.old t.new (Below (span_count (model network.now.content)) (λ r. Lowered (model network.now.content) t.old s (Start r))) result }
 {
     let mut fell = false;
     for other in 0..network.span_count() {
