@@ -1,18 +1,17 @@
 -- One span or tie more: what a call that is not refused brings, and that the content keeps what it kept.
-use Rattle.std.proofs.Common.{◌≡◌, ℕ, ◌+◌, ◌<◌, ◌≤◌, true, false, cond, leb, ◌≢◌, List, [], ◌∷◌, ◌++◌, length, get_or, take, set, Some, None, Ok, Err, Option, sym, refl, ap, ◌∙◌, add-one, arith, length-set, get_or-set_other, get_or-set_same, below_more}
+use Rattle.std.proofs.Common.{◌≡◌, ℕ, ◌+◌, ◌<◌, ◌≤◌, ◌≢◌, List, length, get_or, set, Some, None, Ok, Err, sym, ap, ◌∙◌, add-one, arith, length-set, get_or-set_other, get_or-set_same, below_more}
 use Rattle.std.proofs.lemmas.Bool.Decides.{nat_tests}
 use Rattle.std.proofs.lemmas.Int.{ints}
 use Rattle.std.proofs.lemmas.List.{take_more_set, set-set, set-get_or}
 use Rattle.rules.specs.declared.parts.Span.{Span}
 use Rattle.rules.specs.declared.parts.Tie.{Tie}
-use Rattle.rules.specs.declared.refusal.Refusal.{Refusal}
 use Rattle.rules.specs.declared.refusal.Refusal.TheVariants.{TiesFull}
 use Rattle.rules.specs.Card.{Card, no_span, no_tie, span_count, tie_count}
 use Rattle.rules.specs.Calls.{span_fault, try_fault, tie_fault, tie_answer, answered, unless, spanned, tied, with_span, with_tie}
 use Rattle.network.specs.declared.content.Content.{Content}
 use Rattle.network.specs.declared.network.Network.{Network}
 use Rattle.network.specs.Model.{model}
-use Rattle.network.specs.Kept.{Counts, Lengths, Lasts, SpansLast, Leads, SpansLead, SpansRise, Joins, TiesJoin, Near, TiesNear, Kept, counted, with_spare}
+use Rattle.network.specs.Kept.{Lasts, Leads, Joins, Near, Kept, counted, with_spare}
 use Rattle.network.proofs.Parts.{span_count_is, tie_count_is}
 
 pub span_free : (card : Card) (a l u : ℕ) → span_fault card a l u ≡ None

@@ -1,7 +1,7 @@
 -- What a network keeps makes its card well made.
-use Rattle.std.proofs.Common.{◌≡◌, ℕ, ◌<◌, ◌≤◌, ◌⊎◌, get_or, pos, negsuc, ◌≤ℤ◌, sym, ◌∙◌, subst, inl, inr, ⊎_elim, arith}
+use Rattle.std.proofs.Common.{◌≡◌, ℕ, ◌<◌, ◌≤◌, ◌⊎◌, pos, negsuc, ◌≤ℤ◌, sym, ◌∙◌, subst, ⊎_elim, arith}
 use native.Mathlib.Decide.{ℕ_discrete}
-use Rattle.rules.specs.Card.{WellMade, no_span, span_count, tie_count, start_of, finish_of, least_of, most_of, from_of, to_of, gap_of}
+use Rattle.rules.specs.Card.{WellMade, span_count, tie_count, start_of, finish_of, most_of, from_of, to_of, gap_of}
 use Rattle.network.specs.declared.network.Network.{Network}
 use Rattle.network.specs.Model.{model}
 use Rattle.network.proofs.Parts.{span_count_is, tie_count_is, start_is, finish_is, least_is, most_is, from_is, to_is, gap_is}

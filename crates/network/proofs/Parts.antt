@@ -1,5 +1,5 @@
 -- The parts of a card, by number, are those of its arrays.
-use Rattle.std.proofs.Common.{◌≡◌, ℕ, ◌<◌, true, false, T, get_or, sym, refl, ap, ◌∙◌, subst, arith, length-take-le, get_or-take}
+use Rattle.std.proofs.Common.{◌≡◌, ℕ, ◌<◌, true, false, T, get_or, sym, ap, ◌∙◌, subst, arith, length-take-le, get_or-take}
 use Rattle.rules.specs.Card.{no_span, no_tie, span_count, tie_count, start_of, finish_of, least_of, most_of, from_of, to_of, gap_of, is_finish}
 use Rattle.rules.proofs.Flags.{so, not_so}
 use Rattle.rules.proofs.Basics.{finish_is as the-span, is_finish_of}

@@ -1,6 +1,5 @@
 -- The calls on a card: when each that builds is refused, what it answers and makes, and the card that a list of calls built.
-use Rattle.std.specs.Prelude.{ℕ, suc, Bool, cond, ◌||◌, List, [], ◌∷◌, ◌++◌, ℤ, pos, negsuc, Some, None, Ok, Err, Option, Result, ◌==◌, int_lt, nat_le, nat_lt}
-use Rattle.rules.specs.declared.parts.Span.{Span}
+use Rattle.std.specs.Prelude.{ℕ, suc, cond, ◌||◌, List, [], ◌∷◌, ◌++◌, pos, negsuc, Some, None, Ok, Err, Option, Result, ◌==◌, int_lt, nat_le, nat_lt}
 use Rattle.rules.specs.declared.parts.Tie.{Tie}
 use Rattle.rules.specs.declared.edges.Step.{Step}
 use Rattle.rules.specs.declared.refusal.Refusal.{Refusal}

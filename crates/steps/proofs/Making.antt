@@ -1,8 +1,8 @@
 -- A letter makes exactly the edges that its rule allows.
-use Rattle.std.proofs.Common.{◌≡◌, ℕ, Bool, true, false, cond, ◌&&◌, T, eqb, ◌≢◌, ◌⊎◌, ℤ, pos, negsuc, ◌+ℤ◌, neg_ℤ, ◌≤ℤ◌, ◌<ℤ◌, Some, None, Option, sym, refl, ap, ◌∙◌, subst, inl, inr, ⊎_elim, arith, eqb→eq}
+use Rattle.std.proofs.Common.{◌≡◌, ℕ, Bool, true, false, cond, ◌&&◌, T, eqb, ◌≢◌, ◌⊎◌, ℤ, pos, negsuc, ◌+ℤ◌, neg_ℤ, Some, None, Option, sym, refl, subst, inl, inr, ⊎_elim, arith, eqb→eq}
 use lib.Dec.{eqb_refl}
 use lib.Signed.{le_z, lt_z, le_z_yes, lt_z_yes}
-use Rattle.rules.proofs.Flags.{so, not_so, so_back}
+use Rattle.rules.proofs.Flags.{so, not_so}
 use Rattle.rules.proofs.Basics.{and_left, and_right}
 use Rattle.rules.specs.declared.edges.Kind.{Kind}
 use Rattle.rules.specs.declared.edges.Kind.TheVariants.{Plain, Lower, Wait, AllMost}

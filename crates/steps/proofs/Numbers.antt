@@ -1,5 +1,5 @@
 -- The number of each given edge.
-use Rattle.std.proofs.Common.{◌≡◌, ℕ, zero, suc, ◌+◌, ◌-◌, ◌*◌, ◌/◌, ◌%◌, ◌<◌, ◌≤◌, List, [], ◌∷◌, ◌++◌, length, get_or, take, pos, neg_ℤ, Some, None, sym, refl, ap, ◌∙◌, subst, suc-mul, arith, length-append, length-take-le}
+use Rattle.std.proofs.Common.{◌≡◌, ℕ, zero, suc, ◌+◌, ◌-◌, ◌*◌, ◌/◌, ◌%◌, ◌<◌, ◌≤◌, List, [], ◌∷◌, ◌++◌, length, get_or, take, pos, neg_ℤ, Some, None, sym, refl, ap, ◌∙◌, suc-mul, arith, length-append, length-take-le}
 use native.Mathlib.Decide.{ℕ_discrete}
 use lib.Arith.{digits_lt}
 use Rattle.std.proofs.lemmas.Bool.Decides.{nat_tests}

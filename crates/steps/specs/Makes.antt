@@ -1,5 +1,5 @@
 -- The edge that a letter makes of a left and a right edge, if there is one: the rules, computed.
-use Rattle.std.specs.Prelude.{ℕ, Bool, true, false, cond, ◌&&◌, pos, negsuc, ◌+ℤ◌, neg_ℤ, Some, None, Option, ◌==◌, int_le, int_lt}
+use Rattle.std.specs.Prelude.{ℕ, cond, ◌&&◌, pos, negsuc, ◌+ℤ◌, neg_ℤ, Some, None, Option, ◌==◌, int_le, int_lt}
 use Rattle.rules.specs.declared.edges.Kind.{Kind}
 use Rattle.rules.specs.declared.edges.Kind.TheVariants.{Plain, Lower, Wait, AllMost}
 use Rattle.rules.specs.declared.edges.Edge.{Edge}

@@ -1,5 +1,5 @@
 -- The text of a step.
-use Rattle.std.specs.Prelude.{ℕ, cond, ◌||◌, List, [], ◌∷◌, ◌++◌, decimal, ◌==◌}
+use Rattle.std.specs.Prelude.{ℕ, cond, ◌||◌, List, ◌∷◌, ◌++◌, decimal, ◌==◌}
 use Rattle.rules.specs.declared.edges.Step.{Step}
 
 -- the letters N, U, L, X, R, M and S are printed as they are, and any other as a question mark

@@ -1,4 +1,4 @@
-use Rattle.std.proofs.Common.{◌≡◌, ◌-◌, sym, refl, ap, ◌∙◌, arith}
+use Rattle.std.proofs.Common.{◌-◌, refl, ◌∙◌, arith}
 use Rattle.rules.specs.Steps.{step_at}
 use Rattle.network.specs.Model.{model}
 use Rattle.steps.proofs.Reading.{known_given, known_made, known_none}

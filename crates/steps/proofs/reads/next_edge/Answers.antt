@@ -1,4 +1,4 @@
-use Rattle.std.proofs.Common.{◌≡◌, sym, refl, ap, ◌∙◌, subst}
+use Rattle.std.proofs.Common.{sym, ◌∙◌, subst}
 use Rattle.rules.specs.Steps.{known}
 use Rattle.network.specs.Model.{model}
 use Rattle.steps.specs.Reading.{Makes}

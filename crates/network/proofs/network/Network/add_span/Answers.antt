@@ -1,6 +1,5 @@
-use Rattle.std.proofs.Common.{◌≡◌, suc, ◌<◌, length, None, sym, refl, ap, ◌∙◌, add-one, arith}
-use Rattle.std.proofs.lemmas.List.{take_more_set}
-use Rattle.rules.specs.Calls.{span_fault, answered, unless, with_span}
+use Rattle.std.proofs.Common.{◌≡◌, None, sym, ap, ◌∙◌, arith}
+use Rattle.rules.specs.Calls.{span_fault, answered}
 use Rattle.network.specs.Model.{model}
 use Rattle.network.proofs.Parts.{span_count_is}
 use Rattle.network.proofs.Growing.{span_free, span_kept, model_span}
