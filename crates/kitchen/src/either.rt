@@ -1,7 +1,6 @@
 //! One of two kinds of kitchen, chosen when the program runs.
 ghost use Rattle.kitchen.specs.declared.either.Either.TheVariants.{First, Second};
 ghost use Rattle.kitchen.specs.Eithers.{of_either, by_either};
-ghost use Rattle.std.proofs.Common.{rules};
 
 use crate::interface::Kitchen;
 use crate::track::Status;
@@ -21,7 +20,7 @@ impl<A: Kitchen, B: Kitchen> Kitchen for Either<A, B> {
 
     ghost advances = { λ k m. by_either A.Kitchen.advances B.Kitchen.advances k m };
 
-    ghost keeps = { Prim.search rules };
+    ghost keeps = { elim [ First a ↦ A.Kitchen.keeps a | Second b ↦ B.Kitchen.keeps b ] };
 
     fn count(&self) -> usize {
         match self {

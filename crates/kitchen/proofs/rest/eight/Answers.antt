@@ -1,6 +1,6 @@
-use Rattle.std.proofs.Common.{◌-◌, ◌<◌, sym, ◌∙◌, arith}
+use Rattle.std.proofs.Common.{◌<◌, sym, ◌∙◌, arith}
 use Rattle.std.proofs.lemmas.List.{ext_get_or}
-use Rattle.kitchen.specs.Rested.{first_long, first_at}
+use Rattle.kitchen.proofs.Rested.{first_long, first_at}
 use Rattle.kitchen.proofs.rest.eight.Goals as goal
 
 pub returns : goal.returns

@@ -1,6 +1,6 @@
 use Rattle.std.proofs.Common.{replicate, refl, ap, ◌∙◌}
 use Rattle.kitchen.specs.Rests.{rested}
-use Rattle.kitchen.specs.Rested.{rested_first}
+use Rattle.kitchen.proofs.Rested.{rested_first}
 use Rattle.kitchen.proofs.resting.Resting.over.Goals as goal
 
 pub returns : goal.returns

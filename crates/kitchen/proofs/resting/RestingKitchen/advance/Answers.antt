@@ -1,5 +1,5 @@
 use Rattle.std.proofs.Common.{refl}
-use Rattle.kitchen.specs.Rested.{advanced_rested}
+use Rattle.kitchen.proofs.Rested.{advanced_rested}
 use Rattle.kitchen.proofs.resting.RestingKitchen.advance.Goals as goal
 
 pub returns : goal.returns
@@ -8,5 +8,5 @@ returns g c =
     let e = c.advance.ensures in
     record {
       rule = advanced_rested (g.K.Kitchen.spans k.under) _ k.rests k.counts _ (g.met.K.Kitchen.keeps k.under) e.rule c.counted-self.ensures;
-      own = (e.rule, e.own_val, refl {a = k.rests}, c.counted-self.ensures);
+      own = (e.rule, e.own, refl {a = k.rests}, c.counted-self.ensures);
     }

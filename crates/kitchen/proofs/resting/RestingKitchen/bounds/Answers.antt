@@ -1,22 +1,22 @@
 use Rattle.std.proofs.Common.{arith}
-use Rattle.kitchen.specs.Rested.{most_high, bounds_rested, bounds_none}
+use Rattle.kitchen.proofs.Rested.{most_high, bounds_rested, bounds_none}
 use Rattle.kitchen.proofs.resting.RestingKitchen.bounds.Goals as goal
 
-pub rest-for-rest-requires : goal.rest-for-rest-requires
-rest-for-rest-requires g c =
+pub rest_for-rest-requires : goal.rest_for-rest-requires
+rest_for-rest-requires g c =
     let k = c.args.self.now in
     (most_high (g.K.Kitchen.spans k.under) k.rests k.counts c.args.span _ (g.met.K.Kitchen.keeps k.under) c.in-Ok.ensures).1
 
-pub overflow-add-result : goal.overflow-add-result
-overflow-add-result g c =
+pub overflow_add-result : goal.overflow_add-result
+overflow_add-result g c =
     let k = c.args.self.now in
     let m = most_high (g.K.Kitchen.spans k.under) k.rests k.counts c.args.span _ (g.met.K.Kitchen.keeps k.under) c.in-Ok.ensures in
-    omega (arith, c.rest-for-rest.ensures)
+    omega (arith, c.rest_for-rest.ensures)
 
 pub returns-in-Ok : goal.returns-in-Ok
 returns-in-Ok g c =
     let k = c.args.self.now in
-    bounds_rested (g.K.Kitchen.spans k.under) k.rests k.counts c.args.span _ _ c.in-Ok.ensures c.rest-for-rest.ensures
+    bounds_rested (g.K.Kitchen.spans k.under) k.rests k.counts c.args.span _ _ c.in-Ok.ensures c.rest_for-rest.ensures
 
 pub returns-in-Err : goal.returns-in-Err
 returns-in-Err g c =

@@ -1,10 +1,10 @@
 use Rattle.std.proofs.Common.{◌≤◌, ap, arith}
 use Rattle.kitchen.specs.Tracks.{elapsed}
-use Rattle.kitchen.specs.Rested.{most_high, elapsed_low, tells_rested, tells_none}
+use Rattle.kitchen.proofs.Rested.{most_high, elapsed_low, tells_rested, tells_none}
 use Rattle.kitchen.proofs.resting.RestingKitchen.status.Goals as goal
 
-pub rest-for-requires : goal.rest-for-requires
-rest-for-requires g c =
+pub rest_for-requires : goal.rest_for-requires
+rest_for-requires g c =
     let k = c.args.self.now in
     (most_high (g.K.Kitchen.spans k.under) k.rests k.counts c.args.span _ (g.met.K.Kitchen.keeps k.under) c.in-Ok-Ok.ensures).1
 

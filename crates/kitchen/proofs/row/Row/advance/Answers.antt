@@ -5,14 +5,14 @@ use Rattle.kitchen.specs.Endings.{next_track}
 use Rattle.kitchen.proofs.Endings.{all_fit_next}
 use Rattle.kitchen.proofs.row.Row.advance.Goals as goal
 
-pub invariant-of-self : goal.invariant-of-self
-invariant-of-self c =
+pub invariant_of-self : goal.invariant_of-self
+invariant_of-self c =
     let r = c.args.self.now in
-    let e = c.advance-all.ensures in
-    let n : length c.advance-all.new.tracks ≡ 8 = omega (arith, ap length e, length-map r.tracks (next_track c.args.early)) in
-    (n, (omega arith, (subst (λ ts. AllFit ts 8) (sym e) (all_fit_next c.args.early r.tracks 8 (omega arith) r.ok), tt)))
+    let e = c.advance_all.ensures in
+    let n : length c.advance_all.new.tracks ≡ 8 = omega (arith, ap length e, length-map r.tracks (next_track c.args.early)) in
+    record { long = n; few = omega arith; ok = subst (λ ts. AllFit ts 8) (sym e) (all_fit_next c.args.early r.tracks 8 (omega arith) r.ok) }
 
 pub returns : goal.returns
 returns c =
     let r = c.args.self.now in
-    ap (take r.count) c.advance-all.ensures ∙ take-map (next_track c.args.early) r.count r.tracks
+    ap (take r.count) c.advance_all.ensures ∙ take-map (next_track c.args.early) r.count r.tracks

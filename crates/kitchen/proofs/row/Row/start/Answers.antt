@@ -1,15 +1,15 @@
 use Rattle.std.proofs.Common.{◌<◌, set, sym, refl, ap, ◌∙◌, inr, arith}
-use lib.Seq.{take-set-lt}
+use Rattle.std.proofs.Math.Seq.{take-set-lt}
 use Rattle.kitchen.specs.Rows.{row_spans}
 use Rattle.kitchen.specs.Kitchens.{begun}
 use Rattle.kitchen.specs.Views.{spans_long, spans_at}
 use Rattle.kitchen.proofs.row.Row.start.Goals as goal
 
-pub returns-in-default : goal.returns-in-default
-returns-in-default c =
+pub returns-in_default : goal.returns-in_default
+returns-in_default c =
     let n = spans_long c.args.self.now in
     let at = spans_at c.args.self.now c.args.span (omega arith) in
-    (inr (omega arith, (λ e. c.in-default.not-Cold (sym (ap (λ t. t.status) at) ∙ e)), refl), refl)
+    (inr (omega arith, (λ e. c.in_default.not-Cold (sym (ap (λ t. t.status) at) ∙ e)), refl), refl)
 
 pub returns : goal.returns
 returns c =
