@@ -10,17 +10,17 @@ use Rattle.walks.proofs.Walking.{toward_other, toward_last}
 
 -- what holds of every edge to q, of a walk to q with an edge before it, and of a choice, holds of the best weight to q
 module _ {V : Type 0} (join choose : V → V → V) (between : ℕ → ℕ → V) {n q : ℕ} (P : ℕ → V → Type 0)
-    (edge-holds : (p : ℕ) → p < n → P p (between p q))
-    (onward-holds : (p r : ℕ) (b : V) → p < n → r < n → P r b → P p (join (between p r) b))
-    (chosen-holds : (p : ℕ) (a b : V) → p < n → P p a → P p b → P p (choose a b)) where
+    (edge_holds : (p : ℕ) → p < n → P p (between p q))
+    (onward_holds : (p r : ℕ) (b : V) → p < n → r < n → P r b → P p (join (between p r) b))
+    (chosen_holds : (p : ℕ) (a b : V) → p < n → P p a → P p b → P p (choose a b)) where
   walk_holds : {p : ℕ} (w : Walk n p q) → p < n → P p (weight join between w)
   unfolding weight
-  walk_holds (edge p q) i = edge-holds p i
-  walk_holds (onward p r q h w) i = onward-holds p r _ i h (walk_holds w h)
+  walk_holds (edge p q) i = edge_holds p i
+  walk_holds (onward p r q h w) i = onward_holds p r _ i h (walk_holds w h)
 
   choice_holds : {k p : ℕ} {a : V} → p < n → Choice join choose between n k p q a → P p a
   choice_holds i (walk w l) = walk_holds w i
-  choice_holds {p = p} i (either {a} {b} s t) = chosen-holds p a b i (choice_holds i s) (choice_holds i t)
+  choice_holds {p = p} i (either {a} {b} s t) = chosen_holds p a b i (choice_holds i s) (choice_holds i t)
 
   pub best_holds : {k p : ℕ} {b : V} → p < n → Best join choose between n k p q b → P p b
   best_holds i h = choice_holds i h.made
@@ -84,10 +84,10 @@ module _ {V : Type 0} {join choose : V → V → V} (the : Part join choose) whe
       → ((p : ℕ) (x : ℤ) → p < n → the.part (between p q) ≡ Some x → R p x)
       → ((p r : ℕ) (x y : ℤ) → p < n → r < n → the.before (between p r) ≡ Some x → R r y → R p (x +ℤ y))
       → {k p : ℕ} {b : V} → p < n → Best join choose between n k p q b → (x : ℤ) → the.part b ≡ Some x → R p x
-  part_holds {between} R edge-holds onward-holds = best_holds join choose between (λ p v. (x : ℤ) → the.part v ≡ Some x → R p x)
-      (λ p i x. edge-holds p x i)
+  part_holds {between} R edge_holds onward_holds = best_holds join choose between (λ p v. (x : ℤ) → the.part v ≡ Some x → R p x)
+      (λ p i x. edge_holds p x i)
       (λ p r b i h f z e.
-      sum_lifts (R p) (λ x y. onward-holds p r x y i h) (the.before (between p r)) (the.part b) (λ x d. d) f z (sym (the.adds (between p r) b) ∙ e))
+      sum_lifts (R p) (λ x y. onward_holds p r x y i h) (the.before (between p r)) (the.part b) (λ x d. d) f z (sym (the.adds (between p r) b) ∙ e))
       (λ p a b i f g z e. lesser_lifts (R p) (the.part a) (the.part b) f g z (sym (the.picks a b) ∙ e))
 
   -- some walk of 1 to k edges from p to q weighs x
@@ -129,9 +129,9 @@ module _ {V : Type 0} {join choose : V → V → V} (the : Part join choose) whe
         → ((p : ℕ) (x : ℤ) → p < n → the.part (last p) ≡ Some x → R p x)
         → ((p r : ℕ) (x y : ℤ) → p < n → r < n → the.before (between p r) ≡ Some x → R r y → R p (x +ℤ y))
         → {k p : ℕ} {b : V} → p < n → Best join choose (toward n between last) n k p n b → (x : ℤ) → the.part b ≡ Some x → R p x
-    part_holds_to R last-holds onward-holds = part_holds R
-        (λ p x i e. last-holds p x i (ap the.part (sym (toward_last n between last p)) ∙ e))
-        (λ p r x y i h e. onward-holds p r x y i h (ap the.before (sym (toward_other n between last p r h)) ∙ e))
+    part_holds_to R last_holds onward_holds = part_holds R
+        (λ p x i e. last_holds p x i (ap the.part (sym (toward_last n between last p)) ∙ e))
+        (λ p r x y i h e. onward_holds p r x y i h (ap the.before (sym (toward_other n between last p r h)) ∙ e))
 
     module _ {k p : ℕ} {b : V} (best : Best join choose (toward n between last) n k p n b) where
       pub least_one_to : 1 ≤ k → (x : ℤ) → the.part (last p) ≡ Some x → AtMost (the.part b) x

@@ -19,12 +19,12 @@ module _ {V : Type 0} (join choose : V → V → V) where
   pub one_more : (a s t x x' y y' : V) → a ≡ choose s (join x y) → s ≡ t → x ≡ x' → y ≡ y' → a ≡ choose t (join x' y')
   one_more a s t x x' y y' e f h i = cc
 
-  module _ (none : V) (choose-absent : (v : V) → choose v none ≡ v) (a t x y : V) (e : a ≡ t) where
+  module _ (none : V) (choose_absent : (v : V) → choose v none ≡ v) (a t x y : V) (e : a ≡ t) where
     pub none_before : ((v : V) → join none v ≡ none) → x ≡ none → a ≡ choose t (join x y)
-    none_before absent-join f = let h = choose-absent t in let k = absent-join y in cc
+    none_before absent_join f = let h = choose_absent t in let k = absent_join y in cc
 
     pub none_after : ((v : V) → join v none ≡ none) → y ≡ none → a ≡ choose t (join x y)
-    none_after join-absent f = let h = choose-absent t in let k = join-absent x in cc
+    none_after join_absent f = let h = choose_absent t in let k = join_absent x in cc
 
 -- what i and j edges weigh fits, joined, if top edges fit
 pub edges_fit : (a b i j limit top : ℕ) → a ≤ i * (limit / top) → b ≤ j * (limit / top) → i + j ≤ top → a + b ≤ limit
@@ -177,17 +177,17 @@ module _ {V : Type 0} {join choose : V → V → V} (laws : Laws join choose) (b
 
 -- a bound on weights that grows with the walks' length
 module _ {V : Type 0} {join choose : V → V → V} (size : V → ℕ)
-    (join-size : (a b : V) → size (join a b) ≤ size a + size b) (choose-size : (a b : V) → size (choose a b) ≤ max (size a) (size b))
-    {between : ℕ → ℕ → V} {n m q : ℕ} (small : Small size between n m) (small-last : (p : ℕ) → p < n → size (between p q) ≤ m) where
+    (join_size : (a b : V) → size (join a b) ≤ size a + size b) (choose_size : (a b : V) → size (choose a b) ≤ max (size a) (size b))
+    {between : ℕ → ℕ → V} {n m q : ℕ} (small : Small size between n m) (small_last : (p : ℕ) → p < n → size (between p q) ≤ m) where
   weight_size : {p : ℕ} (w : Walk n p q) → p < n → size (weight join between w) ≤ edges w * m
   unfolding edges weight
-  weight_size (edge p q) i = rw one-mul (small-last p i)
+  weight_size (edge p q) i = rw one-mul (small_last p i)
   weight_size (onward p r q h w) i =
-      omega (arith, join-size (between p r) (weight join between w), small p r i h, weight_size w h, suc-mul (edges w) m)
+      omega (arith, join_size (between p r) (weight join between w), small p r i h, weight_size w h, suc-mul (edges w) m)
 
   choice_size : {k p : ℕ} {a : V} → p < n → Choice join choose between n k p q a → size a ≤ k * m
   choice_size {k} i (walk w l) = omega (arith, weight_size w i, mul-le-mul_right {m = edges w} {n = k} m l)
-  choice_size i (either {a} {b} s t) = omega (arith, choose-size a b, choice_size i s, choice_size i t)
+  choice_size i (either {a} {b} s t) = omega (arith, choose_size a b, choice_size i s, choice_size i t)
 
   pub best_size : {k p : ℕ} {b : V} → p < n → Best join choose between n k p q b → size b ≤ k * m
   best_size i h = choice_size i h.made

@@ -3,4 +3,3 @@ pub mod Pairs
 pub mod Tables
 pub mod Walks
 pub mod Wholes
-pub mod PlainWaitWeightLemmas

@@ -2,6 +2,7 @@
 use Rattle.std.specs.Prelude.{◌≡◌}
 use Rattle.std.proofs.Common.{rules}
 use Rattle.walks.specs.Minutes.{Whole, sum, lesser}
+use Rattle.walks.specs.Pairs.{Pair}
 
 pub sum_assoc : (a b c : Whole) → sum (sum a b) c ≡ sum a (sum b c)
 sum_assoc a b c = search rules
@@ -14,3 +15,7 @@ sum_over a b c = search rules
 
 pub sum_under : (a b c : Whole) → sum (lesser a b) c ≡ lesser (sum a c) (sum b c)
 sum_under a b c = search rules
+
+-- pairs with the same parts
+pub pair : (a b c d : Whole) → a ≡ c → b ≡ d → ◌≡◌ {A = Pair} (a, b) (c, d)
+pair a b c d p q = cc

@@ -1,8 +1,7 @@
 //! Pairs of a plain and a wait part as weights.
 ghost use Rattle.std.specs.Prelude.{◌^◌};
 ghost use Rattle.walks.specs.Pairs.{Pair, sum_pair, lesser_pair, far_pair, of_pair, absent_pair};
-ghost use Rattle.walks.specs.Wholes.{sum_assoc, lesser_assoc, sum_over, sum_under};
-ghost use Rattle.walks.specs.PlainWaitWeightLemmas.{pair};
+ghost use Rattle.walks.specs.Wholes.{sum_assoc, lesser_assoc, sum_over, sum_under, pair};
 ghost use Rattle.std.proofs.Common.{rules};
 
 use crate::minutes::Minutes;

@@ -9,8 +9,8 @@ use crate::weight::Weight;
 /// Writes the first n weights of `row` into `into`.
 fn copy_row<W: Weight, const N: usize>(row: &[W; N], into: &mut [W; N], n: usize)
     requires { n ≤ N }
-    ensures here { (p : ℕ) → p < n → slice_index_or into.new p absent ≡ slice_index_or row.now p absent }
-    ensures beyond { BeyondRow absent n into.old into.new }
+    ensures here { (p : ℕ) → p < n → slice_index_or into.new p W.absent ≡ slice_index_or row.now p W.absent }
+    ensures beyond { BeyondRow W.absent n into.old into.new }
 {
     for p in 0..n {
         into[p] = weight_at(row, p);
@@ -26,9 +26,9 @@ fn prepend<W: Weight, const N: usize>(
     n: usize,
 )
     requires fits { (n ≤ N) × (r < n) }
-    requires small { (p : ℕ) → p < n → size (cell meaning absent edges.now p r) + size (meaning last) ≤ limit }
-    ensures here { (p : ℕ) → p < n → at meaning absent into.new p ≡ chosen (at meaning absent into.old p) (joined (cell meaning absent edges.now p r) (meaning last)) }
-    ensures beyond { BeyondRow absent n into.old into.new }
+    requires small { (p : ℕ) → p < n → W.size (cell W.meaning W.absent edges.now p r) + W.size (W.meaning last) ≤ W.limit }
+    ensures here { (p : ℕ) → p < n → at W.meaning W.absent into.new p ≡ W.chosen (at W.meaning W.absent into.old p) (W.joined (cell W.meaning W.absent edges.now p r) (W.meaning last)) }
+    ensures beyond { BeyondRow W.absent n into.old into.new }
 {
     for p in 0..n {
         into[p] = into[p].choose(weight_at(&edges[p], r).join(last));
@@ -38,9 +38,9 @@ fn prepend<W: Weight, const N: usize>(
 /// From the best weights over walks of some length to those over walks of one edge more.
 fn lengthen<W: Weight, const N: usize>(edges: &[[W; N]; N], best: &mut [W; N], n: usize)
     requires fits { n ≤ N }
-    requires small { (p r : ℕ) → p < n → r < n → size (cell meaning absent edges.now p r) + size (at meaning absent best.old r) ≤ limit }
-    ensures here { (p : ℕ) → p < n → at meaning absent best.new p ≡ through joined chosen (at meaning absent best.old p) (cell meaning absent edges.now p) (at meaning absent best.old) n }
-    ensures beyond { BeyondRow absent n best.old best.new }
+    requires small { (p r : ℕ) → p < n → r < n → W.size (cell W.meaning W.absent edges.now p r) + W.size (at W.meaning W.absent best.old r) ≤ W.limit }
+    ensures here { (p : ℕ) → p < n → at W.meaning W.absent best.new p ≡ through W.joined W.chosen (at W.meaning W.absent best.old p) (cell W.meaning W.absent edges.now p) (at W.meaning W.absent best.old) n }
+    ensures beyond { BeyondRow W.absent n best.old best.new }
 {
     let shorter = *best;
     for r in 0..n {
@@ -61,10 +61,10 @@ pub fn best_walks_to<W: Weight, const N: usize>(
     k: usize,
 )
     requires fits { (n ≤ N) × (0 < k) }
-    requires small { (Small size (cell meaning absent edges.now) n (limit / k)) × (SmallRow size (at meaning absent last.now) n (limit / k)) }
-    ensures best { (p : ℕ) → p < n → Best joined chosen (toward n (cell meaning absent edges.now) (at meaning absent last.now)) n k p n (at meaning absent out.new p) }
-    ensures sized { (m : ℕ) → Small size (cell meaning absent edges.now) n m → SmallRow size (at meaning absent last.now) n m → SmallRow size (at meaning absent out.new) n (k * m) }
-    ensures beyond { BeyondRow absent n out.old out.new }
+    requires small { (Small W.size (cell W.meaning W.absent edges.now) n (W.limit / k)) × (SmallRow W.size (at W.meaning W.absent last.now) n (W.limit / k)) }
+    ensures best { (p : ℕ) → p < n → Best W.joined W.chosen (toward n (cell W.meaning W.absent edges.now) (at W.meaning W.absent last.now)) n k p n (at W.meaning W.absent out.new p) }
+    ensures sized { (m : ℕ) → Small W.size (cell W.meaning W.absent edges.now) n m → SmallRow W.size (at W.meaning W.absent last.now) n m → SmallRow W.size (at W.meaning W.absent out.new) n (k * m) }
+    ensures beyond { BeyondRow W.absent n out.old out.new }
 {
     copy_row(last, out, n);
     for j in 1..k {

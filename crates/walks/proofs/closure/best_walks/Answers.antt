@@ -1,12 +1,12 @@
-use Rattle.std.proofs.Common.{◌≡◌, ℕ, ◌+◌, ◌*◌, ◌/◌, ◌^◌, ◌<◌, ◌≤◌, List, refl, ap, ◌∙◌, subst, arith, pow_pos, pow_mono, pow-add, rules}
+use Rattle.std.proofs.Common.{◌≡◌, ℕ, ◌+◌, ◌*◌, ◌^◌, ◌<◌, ◌≤◌, List, refl, ap, ◌∙◌, subst, arith, pow_pos, pow_mono, pow-add, rules}
 use Rattle.walks.specs.Tables.{cell, Small}
 use Rattle.walks.specs.Walks.{Best}
 use Rattle.walks.proofs.Walking.{Laws, best_same, best_one, best_chain, best_size, edges_fit}
 use Rattle.walks.proofs.closure.best_walks.Given as given
 use Rattle.walks.proofs.closure.best_walks.Goals as goal
 
-laws-of : (g : given.Over) → Laws g.W.Weight.joined g.W.Weight.chosen
-laws-of g = record {
+laws_of : (g : given.Over) → Laws g.W.Weight.joined g.W.Weight.chosen
+laws_of g = record {
   join_assoc = g.met.W.Weight.join_assoc;
   choose_assoc = g.met.W.Weight.choose_assoc;
   choose_comm = g.met.W.Weight.choose_comm;
@@ -20,7 +20,7 @@ pow_twice d = omega (arith, pow-add 2 d 1)
 
 pub loop-d-init : goal.loop-d-init
 loop-d-init g c = (
-  λ p q h j. best_same (laws-of g) _ _ refl (ap g.W.Weight.meaning (c.copy.ensures.here p q h j)) (best_one (laws-of g) _ _ p q),
+  λ p q h j. best_same (laws_of g) _ _ refl (ap g.W.Weight.meaning (c.copy.ensures.here p q h j)) (best_one (laws_of g) _ _ p q),
   λ p q h. refl,
   λ p q h. refl,
 )
@@ -52,8 +52,8 @@ loop-d-preserved g c =
     let m = g.W.Weight in
     let d = c.loop-d.d in (
       λ p q h j.
-          best_same (laws-of g) _ _ (pow_twice d) (ap m.meaning (c.copy-in-loop-d.ensures.here p q h j) ∙ c.double.ensures.here p q h j)
-          (best_chain (laws-of g) _ _ {i = 2 ^ d} {j = 2 ^ d} {k = 2 ^ d} (pow_pos d) (omega arith) (omega arith) (c.loop-d.invariant.0 p q h j) (λ r i. c.loop-d.invariant.0 p r h i) (λ r i. c.loop-d.invariant.0 r q i j)),
+          best_same (laws_of g) _ _ (pow_twice d) (ap m.meaning (c.copy-in-loop-d.ensures.here p q h j) ∙ c.double.ensures.here p q h j)
+          (best_chain (laws_of g) _ _ {i = 2 ^ d} {j = 2 ^ d} {k = 2 ^ d} (pow_pos d) (omega arith) (omega arith) (c.loop-d.invariant.0 p q h j) (λ r i. c.loop-d.invariant.0 p r h i) (λ r i. c.loop-d.invariant.0 r q i j)),
       λ p q h. c.copy-in-loop-d.ensures.beyond p q h ∙ c.loop-d.invariant.1 p q h,
       λ p q h. c.double.ensures.beyond p q h ∙ c.loop-d.invariant.2 p q h,
     )
@@ -62,7 +62,7 @@ pub returns : goal.returns
 returns g c =
     let done : c.args.doublings ≡ c.loop-d.d = omega arith in
     record {
-      best = λ p q h j. best_same (laws-of g) _ _ (ap (λ d. 2 ^ d) done) refl (c.loop-d.invariant.0 p q h j);
+      best = λ p q h j. best_same (laws_of g) _ _ (ap (λ d. 2 ^ d) done) refl (c.loop-d.invariant.0 p q h j);
       sized = rw done (sized g _ _ _ (2 ^ c.loop-d.d) c.loop-d.invariant.0);
       beyond = (λ p q h. c.loop-d.invariant.1 p q h ∙ c.copy.ensures.beyond p q h, c.loop-d.invariant.2);
     }

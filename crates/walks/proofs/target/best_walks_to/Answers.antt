@@ -1,12 +1,12 @@
-use Rattle.std.proofs.Common.{◌≡◌, ℕ, ◌+◌, ◌*◌, ◌/◌, ◌<◌, ◌≤◌, List, sym, refl, ap, ◌∙◌, one-mul, arith, rules}
+use Rattle.std.proofs.Common.{◌≡◌, ℕ, ◌+◌, ◌*◌, ◌<◌, List, sym, refl, ap, ◌∙◌, one-mul, arith, rules}
 use Rattle.walks.specs.Tables.{at, cell, Small, SmallRow}
 use Rattle.walks.specs.Walks.{Best, toward}
 use Rattle.walks.proofs.Walking.{Laws, best_same, best_one, best_chain, best_size, edges_fit, toward_other, toward_last, toward_small, toward_small_last}
 use Rattle.walks.proofs.target.best_walks_to.Given as given
 use Rattle.walks.proofs.target.best_walks_to.Goals as goal
 
-laws-of : (g : given.Over) → Laws g.W.Weight.joined g.W.Weight.chosen
-laws-of g = record {
+laws_of : (g : given.Over) → Laws g.W.Weight.joined g.W.Weight.chosen
+laws_of g = record {
   join_assoc = g.met.W.Weight.join_assoc;
   choose_assoc = g.met.W.Weight.choose_assoc;
   choose_comm = g.met.W.Weight.choose_comm;
@@ -25,18 +25,18 @@ module _ (g : given.Over) where
 
 pub loop-j-init : goal.loop-j-init
 loop-j-init g c = (
-  λ p h. best_same (laws-of g) _ _ refl
-      (ap g.W.Weight.meaning (c.copy-row.ensures.here p h) ∙ sym (toward_last c.args.n (between g c.args.edges.now) (last g c.args.last.now) p))
-      (best_one (laws-of g) _ _ p c.args.n),
+  λ p h. best_same (laws_of g) _ _ refl
+      (ap g.W.Weight.meaning (c.copy_row.ensures.here p h) ∙ sym (toward_last c.args.n (between g c.args.edges.now) (last g c.args.last.now) p))
+      (best_one (laws_of g) _ _ p c.args.n),
   λ p h. refl,
 )
 
 sized : (g : given.Over) (rows : List (List g.row.W.Denot)) (row out : List g.row.W.Denot) (n k : ℕ)
     → ((p : ℕ) → p < n → Best g.W.Weight.joined g.W.Weight.chosen (toward n (between g rows) (last g row)) n k p n (last g out p))
     → (m : ℕ) → Small g.W.Weight.size (between g rows) n m → SmallRow g.W.Weight.size (last g row) n m → SmallRow g.W.Weight.size (last g out) n (k * m)
-sized g rows row out n k best m small small-last p i =
+sized g rows row out n k best m small small_last p i =
     best_size g.W.Weight.size g.met.W.Weight.join_size g.met.W.Weight.choose_size
-    (toward_small n (between g rows) (last g row) g.W.Weight.size small) (toward_small_last n (between g rows) (last g row) g.W.Weight.size small-last)
+    (toward_small n (between g rows) (last g row) g.W.Weight.size small) (toward_small_last n (between g rows) (last g row) g.W.Weight.size small_last)
     i (best p i)
 
 pub lengthen-requires : goal.lengthen-requires
@@ -59,9 +59,9 @@ loop-j-preserved g c =
     let edges = between g c.args.edges.now in
     let ends = last g c.args.last.now in (
       λ p h.
-          best_same (laws-of g) _ _ {j = 1 + j} (omega arith) (c.lengthen.ensures.here p h)
-          (best_chain (laws-of g) _ _ {i = j} {j = 1} {k = j} (omega arith) (omega arith) (omega arith) (c.loop-j.invariant.0 p h)
-          (λ r i. best_same (laws-of g) _ _ refl (sym (toward_other c.args.n edges ends p r i)) (best_one (laws-of g) _ _ p r))
+          best_same (laws_of g) _ _ {j = 1 + j} (omega arith) (c.lengthen.ensures.here p h)
+          (best_chain (laws_of g) _ _ {i = j} {j = 1} {k = j} (omega arith) (omega arith) (omega arith) (c.loop-j.invariant.0 p h)
+          (λ r i. best_same (laws_of g) _ _ refl (sym (toward_other c.args.n edges ends p r i)) (best_one (laws_of g) _ _ p r))
           (λ r i. c.loop-j.invariant.0 r i)),
       λ p h. c.lengthen.ensures.beyond p h ∙ c.loop-j.invariant.1 p h,
     )
@@ -70,7 +70,7 @@ pub returns : goal.returns
 returns g c =
     let done : c.args.k ≡ c.loop-j.j = omega arith in
     record {
-      best = λ p h. best_same (laws-of g) _ _ done refl (c.loop-j.invariant.0 p h);
+      best = λ p h. best_same (laws_of g) _ _ done refl (c.loop-j.invariant.0 p h);
       sized = rw done (sized g _ _ _ _ c.loop-j.j c.loop-j.invariant.0);
-      beyond = λ p h. c.loop-j.invariant.1 p h ∙ c.copy-row.ensures.beyond p h;
+      beyond = λ p h. c.loop-j.invariant.1 p h ∙ c.copy_row.ensures.beyond p h;
     }
