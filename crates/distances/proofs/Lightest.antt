@@ -7,7 +7,7 @@ use Rattle.rules.proofs.Numbered.{all_given}
 use Rattle.steps.proofs.Reading.{edge_known}
 use Rattle.std.proofs.ByRecursion.{All-get_or}
 use lib.Signed.{lt_z}
-use Rattle.std.specs.List.{AllByRecursion as All}
+use Rattle.std.specs.List.{AllByRecursion}
 use Rattle.std.proofs.lemmas.List.{take_more, take_all}
 use Rattle.std.proofs.lemmas.Int.{ints}
 use Rattle.rules.specs.declared.edges.Kind.TheVariants.{Plain}
@@ -136,11 +136,11 @@ lesser_small None b h k = k
 lesser_small (Some x) None h k = h
 lesser_small (Some x) (Some y) h k = either_small (lt_z y x) x y h k
 
-lightest_small : (es : List Edge) → All (Near 32) es → (p q : ℕ) → far (lightest es p q) ≤ 1440
+lightest_small : (es : List Edge) → AllByRecursion (Near 32) es → (p q : ℕ) → far (lightest es p q) ≤ 1440
 lightest_small [] all p q = omega arith
 lightest_small (e ∷ es) all p q = lesser_small (weight_of e p q) (lightest es p q) (weight_small e p q all.0) (lightest_small es all.1 p q)
 
-all_near : (n : Network) (es : List Edge) → All (Given (model n.content)) es → All (Near 32) es
+all_near : (n : Network) (es : List Edge) → AllByRecursion (Given (model n.content)) es → AllByRecursion (Near 32) es
 all_near n [] all = tt
 all_near n (e ∷ es) all = (given_near n all.0, all_near n es all.1)
 

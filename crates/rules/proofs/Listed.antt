@@ -2,7 +2,7 @@
 use Rattle.std.proofs.Common.{◌≡◌, ℕ, zero, suc, ◌-◌, ◌<◌, ◌≤◌, List, [], ◌∷◌, ◌++◌, length, get_or, pos, ◌<ℤ◌, sym, refl, ap, ◌∙◌, subst, ap₂, ⊎_elim, append_assoc, append-nil, arith, length-append}
 use native.Mathlib.Decide.{ℕ_discrete}
 use lib.ListN.{get_or-append}
-use Rattle.std.specs.List.{ContainsAt as Has, AllByRecursion as All}
+use Rattle.std.specs.List.{ContainsAt as Has, AllByRecursion}
 use Rattle.std.proofs.ByRecursion.{All-push, All-get_or, has_append_left, has_push}
 use Rattle.std.proofs.lemmas.Int.{ints}
 use Rattle.std.proofs.lemmas.Bool.{cases_order}
@@ -21,15 +21,15 @@ module _ (card : Card) where
   abbrev Made : Edge → Type 0
   Made e = Derived card Any e
 
-  all_made : (es : List Edge) → All (Given card) es → All Made es
+  all_made : (es : List Edge) → AllByRecursion (Given card) es → AllByRecursion Made es
   all_made [] h = tt
   all_made (e ∷ es) h = (by_given h.0 tt, all_made es h.1)
 
-  step_made : (es : List Edge) (s : Step) → All Made es → LawfulStep card es s → Made s.makes
+  step_made : (es : List Edge) (s : Step) → AllByRecursion Made es → LawfulStep card es s → Made s.makes
   step_made es s all law =
       by_rule law.by_rule (All-get_or Made es s.left s.makes law.left_known all) (All-get_or Made es s.right s.makes law.right_known all) tt
 
-  known_made : WellMade card → (steps : List Step) (n : ℕ) → LawfulTo card steps n → All Made (known card steps n)
+  known_made : WellMade card → (steps : List Step) (n : ℕ) → LawfulTo card steps n → AllByRecursion Made (known card steps n)
   unfolding known
   known_made made steps zero law = all_made (given card) (all_given card made)
   known_made made steps (suc n) law =

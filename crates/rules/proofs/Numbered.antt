@@ -1,7 +1,7 @@
 -- The numbered edges are the given edges.
 use Rattle.std.proofs.Common.{ℕ, zero, suc, ◌-◌, ◌<◌, ◌≤◌, refl, subst, arith}
 use native.Mathlib.Decide.{ℕ_discrete}
-use Rattle.std.specs.List.{ContainsAt as Has, AllByRecursion as All}
+use Rattle.std.specs.List.{ContainsAt as Has, AllByRecursion}
 use Rattle.std.proofs.ByRecursion.{All-append, all-has, has_append_left, has_append_right}
 use Rattle.rules.specs.Card.{Card, WellMade, span_count, tie_count}
 use Rattle.rules.specs.declared.edges.Edge.{Edge}
@@ -12,22 +12,22 @@ use Rattle.rules.specs.Theorems.{GivenNumbered}
 module _ (card : Card) where
   -- ---- each numbered edge is given
 
-  points_given : (n : ℕ) → n < card.points → All (Given card) (point_edges card n)
+  points_given : (n : ℕ) → n < card.points → AllByRecursion (Given card) (point_edges card n)
   unfolding point_edges
   points_given zero h = tt
   points_given (suc n) h = All-append (Given card) (point_edges card n) _ (points_given n (omega arith)) (given_late (suc n) (omega arith) h, (given_early (suc n) (omega arith) h, tt))
 
-  spans_given : (n : ℕ) → n ≤ span_count card → All (Given card) (span_edges card n)
+  spans_given : (n : ℕ) → n ≤ span_count card → AllByRecursion (Given card) (span_edges card n)
   unfolding span_edges
   spans_given zero h = tt
   spans_given (suc s) h = All-append (Given card) (span_edges card s) _ (spans_given s (omega arith)) (given_most s h, (given_least s h, (given_lower s h, (given_wait s h, tt))))
 
-  ties_given : (n : ℕ) → n ≤ tie_count card → All (Given card) (tie_edges card n)
+  ties_given : (n : ℕ) → n ≤ tie_count card → AllByRecursion (Given card) (tie_edges card n)
   unfolding tie_edges
   ties_given zero h = tt
   ties_given (suc i) h = All-append (Given card) (tie_edges card i) _ (ties_given i (omega arith)) (given_tie i h, tt)
 
-  pub all_given : WellMade card → All (Given card) (given card)
+  pub all_given : WellMade card → AllByRecursion (Given card) (given card)
   unfolding given
   all_given made =
       All-append (Given card) (point_edges card (card.points - 1)) _ (points_given (card.points - 1) (omega (arith, made.some_point)))

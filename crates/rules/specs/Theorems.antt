@@ -1,6 +1,6 @@
 -- What is proved of the rules. Each statement is the contract of a function in src/theorems.rt.
 use Rattle.std.specs.Prelude.{◌≡◌, ℕ, suc, ◌+◌, ◌<◌, ◌≤◌, Bool, T, ◌⊎◌, ◌↔◌, List, ◌++◌, ℤ, pos, ◌≤ℤ◌, ◌<ℤ◌, None}
-use Rattle.std.specs.List.{ContainsAt as Has, AllByRecursion as All}
+use Rattle.std.specs.List.{ContainsAt as Has, AllByRecursion}
 use Rattle.rules.specs.Card.{Card, WellMade, tie_count, from_of, to_of, gap_of, is_finish}
 use Rattle.rules.specs.declared.edges.Kind.{Kind}
 use Rattle.rules.specs.declared.edges.Edge.{Edge}
@@ -113,4 +113,4 @@ LooserGood = (card other : Card) → WellMade card → Looser card other → Goo
 
 -- Every example stands.
 abbrev pub ExamplesStand : Type 0
-ExamplesStand = All Stands examples
+ExamplesStand = AllByRecursion Stands examples

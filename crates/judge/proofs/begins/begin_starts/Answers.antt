@@ -14,7 +14,7 @@ use Rattle.judge.proofs.begins.begin_starts.Goals as goal
 
 pub loop-s-preserved : goal.loop-s-preserved
 loop-s-preserved c = (
-  below_more _ _ (λ k lt. c.begin-at.ensures.others c.args.p (Start k) (λ _ e. absurd (omega (arith, start_same e))) ∙ c.loop-s.invariant.0 k lt) c.begin-at.ensures.here,
-  λ r y ne. c.begin-at.ensures.others r y (λ e _. ne e) ∙ c.loop-s.invariant.1 r y ne,
-  λ r q. c.begin-at.ensures.others r (Point q) (λ _ e. not_start e) ∙ c.loop-s.invariant.2 r q,
+  below_more _ _ (λ k lt. c.begin_at.ensures.others c.args.p (Start k) (λ _ e. absurd (omega (arith, start_same e))) ∙ c.loop-s.invariant.0 k lt) c.begin_at.ensures.here,
+  λ r y ne. c.begin_at.ensures.others r y (λ e _. ne e) ∙ c.loop-s.invariant.1 r y ne,
+  λ r q. c.begin_at.ensures.others r (Point q) (λ _ e. not_start e) ∙ c.loop-s.invariant.2 r q,
 )

@@ -12,11 +12,11 @@ use Rattle.judge.proofs.Beginning.{too_long, begins, winning}
 use Rattle.judge.proofs.Holding.{went_as, went_both, point_room, target_room}
 use Rattle.judge.proofs.begins.in_time.Goals as goal
 
-pub returns-then-span-of-network : goal.returns-then-span-of-network
-returns-then-span-of-network c = record {
+pub returns-then-span_of-network : goal.returns-then-span_of-network
+returns-then-span_of-network c = record {
   yes = λ e. absurd (false≢true e);
-  no = λ _. too_long c.args.network.now c.loop-s.s (omega (arith, c.span-count-s-end.ensures)) (omega (arith, c.span-of.ensures.most_is));
+  no = λ _. too_long c.args.network.now c.loop-s.s (omega (arith, c.span_count-s-end.ensures)) (omega (arith, c.span_of.ensures.most_is));
 }
 
 pub loop-s-preserved : goal.loop-s-preserved
-loop-s-preserved c = below_more _ _ c.loop-s.invariant (omega (arith, c.span-of.ensures.most_is))
+loop-s-preserved c = below_more _ _ c.loop-s.invariant (omega (arith, c.span_of.ensures.most_is))

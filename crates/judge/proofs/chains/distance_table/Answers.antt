@@ -12,6 +12,6 @@ use Rattle.judge.proofs.chains.distance_table.Goals as goal
 pub loop-p-preserved : goal.loop-p-preserved
 loop-p-preserved c = λ r q lr lq.
     ⊎_elim
-    (λ (e : r ≡ c.loop-p.p). subst (λ z. cell of_minutes absent_minutes c.distance-row.new.table z q ≡ Some (distance c.args.t.now z q)) (sym e) (c.distance-row.ensures.here q lq))
-    (λ ne. c.distance-row.ensures.others r q ne ∙ c.loop-p.invariant r q (omega arith) lq)
+    (λ (e : r ≡ c.loop-p.p). subst (λ z. cell of_minutes absent_minutes c.distance_row.new.table z q ≡ Some (distance c.args.t.now z q)) (sym e) (c.distance_row.ensures.here q lq))
+    (λ ne. c.distance_row.ensures.others r q ne ∙ c.loop-p.invariant r q (omega arith) lq)
     (cases_eq r c.loop-p.p)

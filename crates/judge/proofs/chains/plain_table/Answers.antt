@@ -13,6 +13,6 @@ use Rattle.judge.proofs.chains.plain_table.Goals as goal
 pub loop-p-preserved : goal.loop-p-preserved
 loop-p-preserved c = λ r q lr lq.
     ⊎_elim
-    (λ (e : r ≡ c.loop-p.p). subst (λ z. cell of_pair absent_pair c.plain-row.new.table z q ≡ (Some (distance c.args.t.now z q), None)) (sym e) (c.plain-row.ensures.here q lq))
-    (λ ne. c.plain-row.ensures.others r q ne ∙ c.loop-p.invariant r q (omega arith) lq)
+    (λ (e : r ≡ c.loop-p.p). subst (λ z. cell of_pair absent_pair c.plain_row.new.table z q ≡ (Some (distance c.args.t.now z q), None)) (sym e) (c.plain_row.ensures.here q lq))
+    (λ ne. c.plain_row.ensures.others r q ne ∙ c.loop-p.invariant r q (omega arith) lq)
     (cases_eq r c.loop-p.p)

@@ -17,6 +17,6 @@ loop-p-preserved c =
     let p = c.loop-p.p in
     let parts : of_pair (record { plain = c.absent.result; wait = c.weight_of.result }) ≡ (None, Some (wait c.args.t.now c.args.s p)) =
     ap₂ {A = Whole} {B = Whole} {C = Pair} (λ a b. (a, b)) (ap of_minutes c.absent.ensures) c.weight_of.ensures in
-    below_more (λ k. at of_pair absent_pair c.put-place.new.row k ≡ (None, Some (wait c.args.t.now c.args.s k))) p
-    (λ k lt. let ne : k ≢ p = omega arith in ap of_pair (c.put-place.ensures.others absent_pair k ne) ∙ c.loop-p.invariant k lt)
-    (ap of_pair (c.put-place.ensures.here absent_pair) ∙ parts)
+    below_more (λ k. at of_pair absent_pair c.put_place.new.row k ≡ (None, Some (wait c.args.t.now c.args.s k))) p
+    (λ k lt. let ne : k ≢ p = omega arith in ap of_pair (c.put_place.ensures.others absent_pair k ne) ∙ c.loop-p.invariant k lt)
+    (ap of_pair (c.put_place.ensures.here absent_pair) ∙ parts)

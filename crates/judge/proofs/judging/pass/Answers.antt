@@ -22,6 +22,6 @@ returns c =
     let Waits : Closure → Type 0 = λ t. Below (span_count card) (λ s. Chained card t (Start s)) in
     went_as
     (went_both (λ t. (Ties t × Spans t) × Chains t) Waits
-    (went_both (λ t. Ties t × Spans t) Chains (went_both Ties Spans c.in-ok-ties.ensures c.in-ok-spans.ensures) c.in-ok-chains.ensures)
-    c.in-ok-waits.ensures)
+    (went_both (λ t. Ties t × Spans t) Chains (went_both Ties Spans c.in_ok-ties.ensures c.in_ok-spans.ensures) c.in_ok-chains.ensures)
+    c.in_ok-waits.ensures)
     (λ h. record { ties = h.0.0.0; spans = h.0.0.1; chains = h.0.1; waits = h.1 })

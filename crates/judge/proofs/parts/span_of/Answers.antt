@@ -4,8 +4,8 @@ use Rattle.network.proofs.Made.{span_in}
 use Rattle.judge.proofs.Holding.{span_room}
 use Rattle.judge.proofs.parts.span_of.Goals as goal
 
-pub offset-bounds-network-s : goal.offset-bounds-network-s
-offset-bounds-network-s c = let h = span_room c.args.network.now c.args.s c.requires in omega arith
+pub offset_bounds-network-s : goal.offset_bounds-network-s
+offset_bounds-network-s c = let h = span_room c.args.network.now c.args.s c.requires in omega arith
 
 pub bounds-network-s : goal.bounds-network-s
 bounds-network-s c = let h = span_room c.args.network.now c.args.s c.requires in omega arith

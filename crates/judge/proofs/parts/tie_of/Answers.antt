@@ -4,8 +4,8 @@ use Rattle.network.proofs.Parts.{from_is, to_is, gap_is}
 use Rattle.network.proofs.Made.{tie_in}
 use Rattle.judge.proofs.parts.tie_of.Goals as goal
 
-pub offset-bounds-network-i : goal.offset-bounds-network-i
-offset-bounds-network-i c = let h = tie_in c.args.network.now c.args.i c.requires in omega (arith, c.args.network.now.counts)
+pub offset_bounds-network-i : goal.offset_bounds-network-i
+offset_bounds-network-i c = let h = tie_in c.args.network.now c.args.i c.requires in omega (arith, c.args.network.now.counts)
 
 pub bounds-network-i : goal.bounds-network-i
 bounds-network-i c = let h = tie_in c.args.network.now c.args.i c.requires in omega (arith, c.args.network.now.counts)

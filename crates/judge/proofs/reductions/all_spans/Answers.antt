@@ -8,4 +8,4 @@ pub loop-s-init : goal.loop-s-init
 loop-s-init c = went_first c.requires.holds
 
 pub loop-s-preserved : goal.loop-s-preserved
-loop-s-preserved c = went_more (λ u s. SpanRules (model c.args.network.now.content) u s) c.loop-s.s c.loop-s.invariant c.in-ok-fell.ensures
+loop-s-preserved c = went_more (λ u s. SpanRules (model c.args.network.now.content) u s) c.loop-s.s c.loop-s.invariant c.in_ok-fell.ensures

@@ -8,4 +8,4 @@ pub loop-p-init : goal.loop-p-init
 loop-p-init c = went_first c.requires.holds
 
 pub loop-p-preserved : goal.loop-p-preserved
-loop-p-preserved c = went_more (λ u p. Freed (model c.args.network.now.content) u c.args.s p) c.loop-p.p c.loop-p.invariant c.in-ok-fell.ensures
+loop-p-preserved c = went_more (λ u p. Freed (model c.args.network.now.content) u c.args.s p) c.loop-p.p c.loop-p.invariant c.in_ok-fell.ensures

@@ -14,7 +14,7 @@ pub relax-requires : goal.relax-requires
 relax-requires c =
     let n = c.args.network.now in
     let s = c.args.s in
-    let is = c.span-of-span.ensures in
+    let is = c.span_of-span.ensures in
     let u = most_in n s c.requires.span in
     record {
       holds = c.requires.holds;
@@ -27,9 +27,9 @@ pub relax-requires-2 : goal.relax-requires-2
 relax-requires-2 c =
     let n = c.args.network.now in
     let s = c.args.s in
-    let is = c.span-of-span.ensures in
+    let is = c.span_of-span.ensures in
     let l = least_in n s c.requires.span in
-    let holds = c.in-ok-later.ensures.holds in
+    let holds = c.in_ok-later.ensures.holds in
     record {
       holds = holds;
       point = omega (arith, is.finish_is, (well_made n).finish_in s c.requires.span);
@@ -41,9 +41,9 @@ pub relax-requires-3 : goal.relax-requires-3
 relax-requires-3 c =
     let n = c.args.network.now in
     let s = c.args.s in
-    let is = c.span-of-span.ensures in
+    let is = c.span_of-span.ensures in
     let u = most_in n s c.requires.span in
-    let holds = c.in-ok-sooner.ensures.holds in
+    let holds = c.in_ok-sooner.ensures.holds in
     record {
       holds = holds;
       point = omega (arith, is.finish_is, (well_made n).finish_in s c.requires.span);
@@ -56,7 +56,7 @@ returns c =
     let n = c.args.network.now in
     let s = c.args.s in
     let card = model n.content in
-    let is = c.span-of-span.ensures in
+    let is = c.span_of-span.ensures in
     let u = most_in n s c.requires.span in
     let l = least_in n s c.requires.span in
     let Later : Closure → Type 0 = λ t. distance t (start_of card s) (finish_of card s) ≤ℤ pos (most_of card s) in
@@ -65,7 +65,7 @@ returns c =
     went_as
     (went_both (λ t. Later t × Sooner t) Waiting
     (went_both Later Sooner
-    (went_as c.in-ok-later.ensures (λ h. omega (arith, ints, h, is.most_is, ap₂ (distance c.args.t.now) is.start_is is.finish_is)))
-    (went_as c.in-ok-sooner.ensures (λ h. omega (arith, ints, h, is.least_is, ap₂ (distance c.relax.new.t) is.finish_is is.start_is))))
-    (went_as c.in-ok-waiting.ensures (λ h. omega (arith, ints, h, is.most_is, ap (wait c.relax-2.new.t s) is.finish_is))))
+    (went_as c.in_ok-later.ensures (λ h. omega (arith, ints, h, is.most_is, ap₂ (distance c.args.t.now) is.start_is is.finish_is)))
+    (went_as c.in_ok-sooner.ensures (λ h. omega (arith, ints, h, is.least_is, ap₂ (distance c.relax.new.t) is.finish_is is.start_is))))
+    (went_as c.in_ok-waiting.ensures (λ h. omega (arith, ints, h, is.most_is, ap (wait c.relax-2.new.t s) is.finish_is))))
     (λ h. record { most = h.0.0; least = h.0.1; wait = h.1 })

@@ -10,7 +10,7 @@ pub relax-requires : goal.relax-requires
 relax-requires c =
     let n = c.args.network.now in
     let i = c.args.i in
-    let is = c.tie-of-tie.ensures in
+    let is = c.tie_of-tie.ensures in
     record {
       holds = c.requires.holds;
       point = omega (arith, is.from_is, (well_made n).from_in i c.requires.tie);

@@ -8,4 +8,4 @@ pub loop-i-init : goal.loop-i-init
 loop-i-init c = went_first c.requires.holds
 
 pub loop-i-preserved : goal.loop-i-preserved
-loop-i-preserved c = went_more (λ u k. Tied (model c.args.network.now.content) u k) c.loop-i.i c.loop-i.invariant c.in-ok-fell.ensures
+loop-i-preserved c = went_more (λ u k. Tied (model c.args.network.now.content) u k) c.loop-i.i c.loop-i.invariant c.in_ok-fell.ensures

@@ -13,7 +13,7 @@ use Rattle.judge.proofs.reductions.lower.Goals as goal
 pub at-weight-requires : goal.at-weight-requires
 at-weight-requires c =
     let n = c.args.network.now in
-    (omega (arith, c.span-of-span.ensures.finish_is, point_room n _ ((well_made n).finish_in c.args.s c.requires.span)), target_room n c.args.x c.requires.target.0)
+    (omega (arith, c.span_of-span.ensures.finish_is, point_room n _ ((well_made n).finish_in c.args.s c.requires.span)), target_room n c.args.x c.requires.target.0)
 
 pub relax-requires : goal.relax-requires
 relax-requires c =
@@ -22,7 +22,7 @@ relax-requires c =
     let x = c.args.x in
     let t = c.args.t.now in
     let card = model n.content in
-    let is = c.span-of-span.ensures in
+    let is = c.span_of-span.ensures in
     let l = least_in n s c.requires.span in
     let a : c.at-weight.result ≡ entry t (finish_of card s) x = c.at-weight.ensures ∙ ap (λ p. entry t p x) is.finish_is in
     let low = low_at n t c.requires.holds (finish_of card s) x ((well_made n).finish_in s c.requires.span) c.requires.target.0 in
@@ -40,7 +40,7 @@ returns c =
     let x = c.args.x in
     let t = c.args.t.now in
     let card = model n.content in
-    let is = c.span-of-span.ensures in
+    let is = c.span_of-span.ensures in
     let l = least_in n s c.requires.span in
     let a : c.at-weight.result ≡ entry t (finish_of card s) x = c.at-weight.ensures ∙ ap (λ p. entry t p x) is.finish_is in
     let low = low_at n t c.requires.holds (finish_of card s) x ((well_made n).finish_in s c.requires.span) c.requires.target.0 in

@@ -8,4 +8,4 @@ pub loop-q-init : goal.loop-q-init
 loop-q-init c = went_first c.requires.holds
 
 pub loop-q-preserved : goal.loop-q-preserved
-loop-q-preserved c = went_more (λ u q. Lowered (model c.args.network.now.content) u c.args.s (Point q)) c.loop-q.q c.loop-q.invariant c.in-ok-fell.ensures
+loop-q-preserved c = went_more (λ u q. Lowered (model c.args.network.now.content) u c.args.s (Point q)) c.loop-q.q c.loop-q.invariant c.in_ok-fell.ensures

@@ -16,6 +16,6 @@ returns c =
     let Free : Closure → Type 0 = λ t. Below card.points (Freed card t s) in
     went_as
     (went_both (λ t. (Given t × Low t) × Cross t) Free
-    (went_both (λ t. Given t × Low t) Cross (went_both Given Low c.in-ok-given.ensures c.in-ok-lowered.ensures) c.in-ok-crossed.ensures)
-    c.in-ok-freed.ensures)
+    (went_both (λ t. Given t × Low t) Cross (went_both Given Low c.in_ok-given.ensures c.in_ok-lowered.ensures) c.in_ok-crossed.ensures)
+    c.in_ok-freed.ensures)
     (λ h. record { given = h.0.0.0; lowered = h.0.0.1; crossed = h.0.1; freed = h.1 })

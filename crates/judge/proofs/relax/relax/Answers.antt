@@ -16,8 +16,8 @@ at-back-requires c =
     let n = c.args.network.now in
     (omega (arith, c.head.ensures, point_room n _ (head_in n c.args.x c.requires.target)), omega (arith, point_room n _ c.requires.point))
 
-pub overflow-add-weight : goal.overflow-add-weight
-overflow-add-weight c =
+pub overflow_add-weight : goal.overflow_add-weight
+overflow_add-weight c =
     let n = c.args.network.now in
     let t = c.args.t.now in
     let h = head_in n c.args.x c.requires.target in
