@@ -11,4 +11,4 @@ loop-number-init c = absent_all c.absent.result c.absent.ensures
 
 pub returns : goal.returns
 returns c = λ p q.
-    c.loop-number.invariant p q ∙ ap (λ es. lightest es p q) (take_all c.loop-number.number (given (model c.args.network.now.content)) (omega (arith, c.given-count-number-end.ensures)))
+    c.loop-number.invariant p q ∙ ap (λ es. lightest es p q) (take_all c.loop-number.number (given (model c.args.network.now.content)) (omega (arith, c.given_count-number-end.ensures)))

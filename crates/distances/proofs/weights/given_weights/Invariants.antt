@@ -1,5 +1,5 @@
 use Rattle.std.proofs.Common.{take}
-use Rattle.rules.specs.Steps.{goal as given-edges}
+use Rattle.rules.specs.Steps.{given as given-edges}
 use Rattle.network.specs.Model.{model}
 use Rattle.distances.specs.Distances.{Holds}
 use Rattle.distances.proofs.weights.given_weights.Given as goal

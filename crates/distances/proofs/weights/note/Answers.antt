@@ -8,6 +8,6 @@ use Rattle.distances.proofs.weights.note.Goals as goal
 pub returns : goal.returns
 returns c =
     let w : of_minutes c.of.result ≡ Some c.args.edge.weight = c.of.ensures ∙ ap Some (omega (arith, ints)) in
-    noted c.args.edge c.in-Plain.is (cell of_minutes absent_minutes c.args.table.now) (cell of_minutes absent_minutes c.put-weight.new.table)
-    (ap of_minutes c.put-weight.ensures.here ∙ c.choose.ensures ∙ ap (λ x. lesser (of_minutes x) (of_minutes c.of.result)) c.weight-at-old.ensures ∙ ap (lesser _) w)
-    (λ p q ne. ap of_minutes (c.put-weight.ensures.others p q ne))
+    noted c.args.edge c.in-Plain.is (cell of_minutes absent_minutes c.args.table.now) (cell of_minutes absent_minutes c.put_weight.new.table)
+    (ap of_minutes c.put_weight.ensures.here ∙ c.choose.ensures ∙ ap (λ x. lesser (of_minutes x) (of_minutes c.of.result)) c.weight_at-old.ensures ∙ ap (lesser _) w)
+    (λ p q ne. ap of_minutes (c.put_weight.ensures.others p q ne))

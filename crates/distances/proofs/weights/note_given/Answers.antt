@@ -8,13 +8,13 @@ use Rattle.distances.proofs.Lightest.{edge_near, lightest_more}
 use Rattle.distances.proofs.weights.note_given.Goals as goal
 
 pub note-requires : goal.note-requires
-note-requires c = edge_near c.args.network.now c.args.number c.in-Some.edge (sym c.given-edge.ensures ∙ c.in-Some.is)
+note-requires c = edge_near c.args.network.now c.args.number c.in-Some.edge (sym c.given_edge.ensures ∙ c.in-Some.is)
 
-pub returns-in-default : goal.returns-in-default
-returns-in-default c = absurd (edge_unknown (given (model c.args.network.now.content)) c.args.number (sym c.given-edge.ensures ∙ c.in-default.is) c.requires.within)
+pub returns-in_default : goal.returns-in_default
+returns-in_default c = absurd (edge_unknown (given (model c.args.network.now.content)) c.args.number (sym c.given_edge.ensures ∙ c.in_default.is) c.requires.within)
 
 pub returns : goal.returns
 returns c = λ p q.
     c.note.ensures p q
     ∙ ap (λ x. lesser x (weight_of c.in-Some.edge p q)) (c.requires.before p q)
-    ∙ lightest_more c.args.network.now c.args.number c.in-Some.edge (sym c.given-edge.ensures ∙ c.in-Some.is) p q
+    ∙ lightest_more c.args.network.now c.args.number c.in-Some.edge (sym c.given_edge.ensures ∙ c.in-Some.is) p q

@@ -9,17 +9,17 @@ use Rattle.explain.proofs.Holding.{point_room, column_room, given_few}
 use Rattle.explain.proofs.Loading.{found_edge, edge_there, given_at, no_column, of_it, no_worse, near_loaded, loaded_same, loaded_put}
 use Rattle.explain.proofs.given.adopt.Goals as goal
 
-pub returns-in-default : goal.returns-in-default
-returns-in-default c = edge_there (given (model c.args.network.now.content)) c.args.number c.given-edge.result c.requires.place c.given-edge.ensures c.in-default.is
+pub returns-in_default : goal.returns-in_default
+returns-in_default c = edge_there (given (model c.args.network.now.content)) c.args.number c.given_edge.result c.requires.place c.given_edge.ensures c.in_default.is
 
-pub returns-in-default-column : goal.returns-in-default-column
-returns-in-default-column c =
+pub returns-in_default-column : goal.returns-in_default-column
+returns-in_default-column c =
     let n = c.args.network.now in
     let m = model n.content in
     let k = c.args.number in
     let e = c.args.work.now.best in
-    let f-is = found_edge (given m) k c.in-Some.edge c.given-edge.result c.requires.place c.given-edge.ensures c.in-Some.is in
-    let none = subst (λ f. column_at m f.kind f.target ≡ None) f-is (sym c.column.ensures ∙ c.in-default-column.is) in
+    let f-is = found_edge (given m) k c.in-Some.edge c.given_edge.result c.requires.place c.given_edge.ensures c.in-Some.is in
+    let none = subst (λ f. column_at m f.kind f.target ≡ None) f-is (sym c.column.ensures ∙ c.in_default-column.is) in
     record { table = loaded_same n e k c.requires.loaded c.requires.place (no_column n (given_at n k c.requires.place) none e); count = refl }
 
 pub at-requires : goal.at-requires
@@ -28,7 +28,7 @@ at-requires c =
     let m = model n.content in
     let k = c.args.number in
     let e = c.args.work.now.best in
-    let f-is = found_edge (given m) k c.in-Some.edge c.given-edge.result c.requires.place c.given-edge.ensures c.in-Some.is in
+    let f-is = found_edge (given m) k c.in-Some.edge c.given_edge.result c.requires.place c.given_edge.ensures c.in-Some.is in
     let col = subst (λ f. column_at m f.kind f.target ≡ Some c.in-Some-column.x) f-is (sym c.column.ensures ∙ c.in-Some-column.is) in
     let it = of_it n e k c.requires.loaded c.requires.place c.in-Some-column.x col in
     (omega (arith, ap (λ f. f.source) f-is, point_room n _ it.source_in), column_room n _ it.column_in)
@@ -39,7 +39,7 @@ returns-then-edge-at c =
     let m = model n.content in
     let k = c.args.number in
     let e = c.args.work.now.best in
-    let f-is = found_edge (given m) k c.in-Some.edge c.given-edge.result c.requires.place c.given-edge.ensures c.in-Some.is in
+    let f-is = found_edge (given m) k c.in-Some.edge c.given_edge.result c.requires.place c.given_edge.ensures c.in-Some.is in
     let col = subst (λ f. column_at m f.kind f.target ≡ Some c.in-Some-column.x) f-is (sym c.column.ensures ∙ c.in-Some-column.is) in
     let it = of_it n e k c.requires.loaded c.requires.place c.in-Some-column.x col in
     let x = c.in-Some-column.x in
@@ -49,8 +49,8 @@ returns-then-edge-at c =
     omega (arith, ints, c.if-edge-at.true, ap (λ z. z.weight) c.at.ensures, s, ap (λ f. f.weight) f-is, it.low, it.high, near.0, near.1) in
     record { table = loaded_same n e k c.requires.loaded c.requires.place (no_worse n e k c.requires.loaded c.requires.place x col e no-better); count = refl }
 
-pub overflow-cast-this : goal.overflow-cast-this
-overflow-cast-this c = let n = c.args.network.now in omega (arith, c.requires.place, given_few n)
+pub overflow_cast-this : goal.overflow_cast-this
+overflow_cast-this c = let n = c.args.network.now in omega (arith, c.requires.place, given_few n)
 
 pub put-requires : goal.put-requires
 put-requires c =
@@ -58,7 +58,7 @@ put-requires c =
     let m = model n.content in
     let k = c.args.number in
     let e = c.args.work.now.best in
-    let f-is = found_edge (given m) k c.in-Some.edge c.given-edge.result c.requires.place c.given-edge.ensures c.in-Some.is in
+    let f-is = found_edge (given m) k c.in-Some.edge c.given_edge.result c.requires.place c.given_edge.ensures c.in-Some.is in
     let col = subst (λ f. column_at m f.kind f.target ≡ Some c.in-Some-column.x) f-is (sym c.column.ensures ∙ c.in-Some-column.is) in
     let it = of_it n e k c.requires.loaded c.requires.place c.in-Some-column.x col in
     (omega (arith, ap (λ f. f.source) f-is, point_room n _ it.source_in), column_room n _ it.column_in)
@@ -69,7 +69,7 @@ returns c =
     let m = model n.content in
     let k = c.args.number in
     let e = c.args.work.now.best in
-    let f-is = found_edge (given m) k c.in-Some.edge c.given-edge.result c.requires.place c.given-edge.ensures c.in-Some.is in
+    let f-is = found_edge (given m) k c.in-Some.edge c.given_edge.result c.requires.place c.given_edge.ensures c.in-Some.is in
     let col = subst (λ f. column_at m f.kind f.target ≡ Some c.in-Some-column.x) f-is (sym c.column.ensures ∙ c.in-Some-column.is) in
     let it = of_it n e k c.requires.loaded c.requires.place c.in-Some-column.x col in
     let x = c.in-Some-column.x in

@@ -7,11 +7,11 @@ use Rattle.explain.proofs.Holding.{given_few, horizon_in}
 use Rattle.explain.proofs.Testing.{some_h, some_p, detour_step, detoured}
 use Rattle.explain.proofs.given_loops.detour.Goals as goal
 
-pub overflow-sub-home : goal.overflow-sub-home
-overflow-sub-home c = omega (arith, some_h c.args.network.now c.args.work.now.best c.requires.loaded c.args.h c.args.p c.requires.place.0 c.requires.place.1 c.requires.place.2 c.requires.none)
+pub overflow_sub-home : goal.overflow_sub-home
+overflow_sub-home c = omega (arith, some_h c.args.network.now c.args.work.now.best c.requires.loaded c.args.h c.args.p c.requires.place.0 c.requires.place.1 c.requires.place.2 c.requires.none)
 
-pub overflow-sub-away : goal.overflow-sub-away
-overflow-sub-away c = omega (arith, some_p c.args.network.now c.args.work.now.best c.requires.loaded c.args.h c.args.p c.requires.place.0 c.requires.place.1 c.requires.place.2 c.requires.none)
+pub overflow_sub-away : goal.overflow_sub-away
+overflow_sub-away c = omega (arith, some_p c.args.network.now c.args.work.now.best c.requires.loaded c.args.h c.args.p c.requires.place.0 c.requires.place.1 c.requires.place.2 c.requires.none)
 
 pub joined-step-requires : goal.joined-step-requires
 joined-step-requires c =
@@ -22,8 +22,8 @@ joined-step-requires c =
       right = (omega (arith, ints, horizon_in n), omega (arith, ints, horizon_in n));
     }
 
-pub overflow-cast-result-2 : goal.overflow-cast-result-2
-overflow-cast-result-2 c = omega (arith, c.given-count.ensures, given_few c.args.network.now)
+pub overflow_cast-result-2 : goal.overflow_cast-result-2
+overflow_cast-result-2 c = omega (arith, c.given_count.ensures, given_few c.args.network.now)
 
 pub returns : goal.returns
 returns c =
@@ -35,4 +35,4 @@ returns c =
     let is : c.joined-step.result ≡ detour_step n c.args.work.now.best c.requires.loaded h p =
     c.joined-step.ensures ∙ (λ i. record { letter = 78; left = 2 * (h - 1) + 1; right = 2 * (p - 1); makes = way m h p (pos 0 +ℤ hz i) }) in
     detoured n c.args.work.now.best c.requires.loaded h p c.requires.place.0 c.requires.place.1 c.requires.place.2 c.requires.none
-    c.args.work.now c.write.new.work c.args.list.now c.write.new.list c.joined-step.result _ c.requires.count is c.in-ok-write.ensures hz c.given-count.ensures
+    c.args.work.now c.write.new.work c.args.list.now c.write.new.list c.joined-step.result _ c.requires.count is c.in_ok-write.ensures hz c.given_count.ensures

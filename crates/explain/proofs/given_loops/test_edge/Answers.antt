@@ -1,4 +1,4 @@
-use Rattle.std.proofs.Common.{◌≡◌, ◌<◌, ◌≢◌, length, get_or, pos, ◌+ℤ◌, neg_ℤ, ◌≤ℤ◌, ◌<ℤ◌, Some, None, sym, refl, ap, ◌∙◌, subst, arith, w32, to_z, of_z}
+use Rattle.std.proofs.Common.{◌≡◌, ℕ, ℤ, ◌<◌, ◌≢◌, length, get_or, pos, ◌+ℤ◌, neg_ℤ, ◌≤ℤ◌, ◌<ℤ◌, Some, None, sym, refl, ap, ◌∙◌, subst, arith, w32, to_z, of_z}
 use Rattle.std.proofs.lemmas.Int.{ints}
 use Rattle.rules.specs.declared.edges.Kind.TheVariants.{Plain}
 use Rattle.rules.specs.Edges.{edge}
@@ -14,23 +14,27 @@ use Rattle.explain.proofs.Loading.{found_edge, edge_there, some_none}
 use Rattle.explain.proofs.Testing.{it, head_below, near_back, this_stands, back_given, back_detour, tested, written_none}
 use Rattle.explain.proofs.given_loops.test_edge.Goals as goal
 
-pub returns-in-default : goal.returns-in-default
-returns-in-default c = edge_there (given (model c.args.network.now.content)) c.args.number c.given-edge.result c.requires.place c.given-edge.ensures c.in-default.is
+-- what closes no loop with a weight of at most the limit is not below it
+above_limit : (a w : ℤ) (h : ℕ) → pos 0 ≤ℤ (a +ℤ w) → a ≤ℤ pos h → neg_ℤ (pos h) ≤ℤ w
+above_limit a w h sum le = omega (arith, ints)
 
-pub returns-in-default-column : goal.returns-in-default-column
-returns-in-default-column c =
+pub returns-in_default : goal.returns-in_default
+returns-in_default c = edge_there (given (model c.args.network.now.content)) c.args.number c.given_edge.result c.requires.place c.given_edge.ensures c.in_default.is
+
+pub returns-in_default-column : goal.returns-in_default-column
+returns-in_default-column c =
     let n = c.args.network.now in
     let m = model n.content in
     let k = c.args.number in
     let w = c.args.work.now in
     let e = w.best in
     let l = c.args.list.now in
-    let f-is = found_edge (given m) k c.in-Some.edge c.given-edge.result c.requires.place c.given-edge.ensures c.in-Some.is in
-    let none = subst (λ f. column_at m f.kind f.target ≡ None) f-is (sym c.column.ensures ∙ c.in-default-column.is) in
+    let f-is = found_edge (given m) k c.in-Some.edge c.given_edge.result c.requires.place c.given_edge.ensures c.in-Some.is in
+    let none = subst (λ f. column_at m f.kind f.target ≡ None) f-is (sym c.column.ensures ∙ c.in_default-column.is) in
     (refl, refl, λ x q. some_none (sym none ∙ q))
 
-pub overflow-cast-this : goal.overflow-cast-this
-overflow-cast-this c = omega (arith, c.requires.place, given_few c.args.network.now)
+pub overflow_cast-this : goal.overflow_cast-this
+overflow_cast-this c = omega (arith, c.requires.place, given_few c.args.network.now)
 
 pub head-requires : goal.head-requires
 head-requires c =
@@ -40,7 +44,7 @@ head-requires c =
     let w = c.args.work.now in
     let e = w.best in
     let l = c.args.list.now in
-    let f-is = found_edge (given m) k c.in-Some.edge c.given-edge.result c.requires.place c.given-edge.ensures c.in-Some.is in
+    let f-is = found_edge (given m) k c.in-Some.edge c.given_edge.result c.requires.place c.given_edge.ensures c.in-Some.is in
     let x = c.in-Some-column.x in
     let col = subst (λ f. column_at m f.kind f.target ≡ Some x) f-is (sym c.column.ensures ∙ c.in-Some-column.is) in
     let i = it n e c.requires.loaded k c.requires.place x col in
@@ -57,7 +61,7 @@ at-back-requires c =
     let w = c.args.work.now in
     let e = w.best in
     let l = c.args.list.now in
-    let f-is = found_edge (given m) k c.in-Some.edge c.given-edge.result c.requires.place c.given-edge.ensures c.in-Some.is in
+    let f-is = found_edge (given m) k c.in-Some.edge c.given_edge.result c.requires.place c.given_edge.ensures c.in-Some.is in
     let x = c.in-Some-column.x in
     let col = subst (λ f. column_at m f.kind f.target ≡ Some x) f-is (sym c.column.ensures ∙ c.in-Some-column.is) in
     let i = it n e c.requires.loaded k c.requires.place x col in
@@ -66,15 +70,15 @@ at-back-requires c =
     let hz = horizon_in n in
     (omega (arith, c.head.ensures, point_room n (head_of m x) (head_below n e c.requires.loaded k c.requires.place x col)), omega (arith, fs, point_room n _ i.source_in))
 
-pub overflow-add-back : goal.overflow-add-back
-overflow-add-back c =
+pub overflow_add-back : goal.overflow_add-back
+overflow_add-back c =
     let n = c.args.network.now in
     let m = model n.content in
     let k = c.args.number in
     let w = c.args.work.now in
     let e = w.best in
     let l = c.args.list.now in
-    let f-is = found_edge (given m) k c.in-Some.edge c.given-edge.result c.requires.place c.given-edge.ensures c.in-Some.is in
+    let f-is = found_edge (given m) k c.in-Some.edge c.given_edge.result c.requires.place c.given_edge.ensures c.in-Some.is in
     let x = c.in-Some-column.x in
     let col = subst (λ f. column_at m f.kind f.target ≡ Some x) f-is (sym c.column.ensures ∙ c.in-Some-column.is) in
     let i = it n e c.requires.loaded k c.requires.place x col in
@@ -94,7 +98,7 @@ close-requires c =
     let w = c.args.work.now in
     let e = w.best in
     let l = c.args.list.now in
-    let f-is = found_edge (given m) k c.in-Some.edge c.given-edge.result c.requires.place c.given-edge.ensures c.in-Some.is in
+    let f-is = found_edge (given m) k c.in-Some.edge c.given_edge.result c.requires.place c.given_edge.ensures c.in-Some.is in
     let x = c.in-Some-column.x in
     let col = subst (λ f. column_at m f.kind f.target ≡ Some x) f-is (sym c.column.ensures ∙ c.in-Some-column.is) in
     let i = it n e c.requires.loaded k c.requires.place x col in
@@ -124,7 +128,7 @@ returns-then-back-limit c =
     let w = c.args.work.now in
     let e = w.best in
     let l = c.args.list.now in
-    let f-is = found_edge (given m) k c.in-Some.edge c.given-edge.result c.requires.place c.given-edge.ensures c.in-Some.is in
+    let f-is = found_edge (given m) k c.in-Some.edge c.given_edge.result c.requires.place c.given_edge.ensures c.in-Some.is in
     let x = c.in-Some-column.x in
     let col = subst (λ f. column_at m f.kind f.target ≡ Some x) f-is (sym c.column.ensures ∙ c.in-Some-column.is) in
     let i = it n e c.requires.loaded k c.requires.place x col in
@@ -134,12 +138,9 @@ returns-then-back-limit c =
     let nb = near_back n e c.requires.loaded k c.requires.place x col in
     let b-is : c.at-back.result ≡ best e (head_of m x) (get_or (given m) k no_edge).source = c.at-back.ensures ∙ (λ j. best e (c.head.ensures j) (fs j)) in
     let bw = ap (λ b. b.weight) b-is in
-    let w-is : to_z w32 (of_z w32 c.in-Some.edge.weight) ≡ (get_or (given m) k no_edge).weight = omega (arith, ints, fw, i.low, i.high) in
-    let this : Best = record { weight = to_z w32 (of_z w32 c.in-Some.edge.weight); number = k } in
-    let this-is : this ≡ record { weight = (get_or (given m) k no_edge).weight; number = k } = λ j. record { weight = w-is j; number = k } in
-    let sum : pos 0 ≤ℤ (at e (head_of m x) (get_or (given m) k no_edge).source +ℤ (get_or (given m) k no_edge).weight) = omega (arith, ints, c.if-back-this-lt0.false, bw, nb.0, nb.1, fw, i.low, i.high) in
     let le : at e (head_of m x) (get_or (given m) k no_edge).source ≤ℤ pos m.horizon = omega (arith, ints, c.if-back-limit.true, bw, nb.0, nb.1, hz) in
-    (refl, refl, tested n e c.requires.loaded k c.requires.place x col (omega (arith, ints, sum, le)) sum)
+    let sum : pos 0 ≤ℤ (at e (head_of m x) (get_or (given m) k no_edge).source +ℤ (get_or (given m) k no_edge).weight) = omega (arith, ints, c.if-back-this-lt0.false, bw, nb.0, nb.1, fw, i.low, i.high) in
+    (refl, refl, tested n e c.requires.loaded k c.requires.place x col (above_limit _ _ _ sum le) sum)
 
 pub returns-then-this-limit : goal.returns-then-this-limit
 returns-then-this-limit c =
@@ -149,7 +150,7 @@ returns-then-this-limit c =
     let w = c.args.work.now in
     let e = w.best in
     let l = c.args.list.now in
-    let f-is = found_edge (given m) k c.in-Some.edge c.given-edge.result c.requires.place c.given-edge.ensures c.in-Some.is in
+    let f-is = found_edge (given m) k c.in-Some.edge c.given_edge.result c.requires.place c.given_edge.ensures c.in-Some.is in
     let x = c.in-Some-column.x in
     let col = subst (λ f. column_at m f.kind f.target ≡ Some x) f-is (sym c.column.ensures ∙ c.in-Some-column.is) in
     let i = it n e c.requires.loaded k c.requires.place x col in
@@ -174,7 +175,7 @@ head-requires-2 c =
     let w = c.args.work.now in
     let e = w.best in
     let l = c.args.list.now in
-    let f-is = found_edge (given m) k c.in-Some.edge c.given-edge.result c.requires.place c.given-edge.ensures c.in-Some.is in
+    let f-is = found_edge (given m) k c.in-Some.edge c.given_edge.result c.requires.place c.given_edge.ensures c.in-Some.is in
     let x = c.in-Some-column.x in
     let col = subst (λ f. column_at m f.kind f.target ≡ Some x) f-is (sym c.column.ensures ∙ c.in-Some-column.is) in
     let i = it n e c.requires.loaded k c.requires.place x col in
@@ -191,7 +192,7 @@ detour-requires c =
     let w = c.args.work.now in
     let e = w.best in
     let l = c.args.list.now in
-    let f-is = found_edge (given m) k c.in-Some.edge c.given-edge.result c.requires.place c.given-edge.ensures c.in-Some.is in
+    let f-is = found_edge (given m) k c.in-Some.edge c.given_edge.result c.requires.place c.given_edge.ensures c.in-Some.is in
     let x = c.in-Some-column.x in
     let col = subst (λ f. column_at m f.kind f.target ≡ Some x) f-is (sym c.column.ensures ∙ c.in-Some-column.is) in
     let i = it n e c.requires.loaded k c.requires.place x col in
@@ -220,7 +221,7 @@ close-requires-2 c =
     let w = c.args.work.now in
     let e = w.best in
     let l = c.args.list.now in
-    let f-is = found_edge (given m) k c.in-Some.edge c.given-edge.result c.requires.place c.given-edge.ensures c.in-Some.is in
+    let f-is = found_edge (given m) k c.in-Some.edge c.given_edge.result c.requires.place c.given_edge.ensures c.in-Some.is in
     let x = c.in-Some-column.x in
     let col = subst (λ f. column_at m f.kind f.target ≡ Some x) f-is (sym c.column.ensures ∙ c.in-Some-column.is) in
     let i = it n e c.requires.loaded k c.requires.place x col in
@@ -233,15 +234,15 @@ close-requires-2 c =
     let w-is : to_z w32 (of_z w32 c.in-Some.edge.weight) ≡ (get_or (given m) k no_edge).weight = omega (arith, ints, fw, i.low, i.high) in
     let this : Best = record { weight = to_z w32 (of_z w32 c.in-Some.edge.weight); number = k } in
     let this-is : this ≡ record { weight = (get_or (given m) k no_edge).weight; number = k } = λ j. record { weight = w-is j; number = k } in
-    let d = c.in-ok-detour.ensures in
+    let d = c.in_ok-detour.ensures in
     let es = known m c.detour.new.list c.detour.new.work.count in
     record {
       written = d.0;
       few = omega (arith, d.2);
       place = (omega (arith, fs, i.source_in), i.column_in);
-      back = subst (λ p. Back m es p x c.in-ok-detour.detour this) (sym fs)
-          (back_detour n e c.requires.loaded k c.requires.place x col es c.in-ok-detour.detour this
-          (subst (λ h. Stands es c.in-ok-detour.detour.number h) (λ j. edge Plain (c.head-2.ensures j) (fs j) c.in-ok-detour.detour.weight) d.4) d.3 this-is
+      back = subst (λ p. Back m es p x c.in_ok-detour.detour this) (sym fs)
+          (back_detour n e c.requires.loaded k c.requires.place x col es c.in_ok-detour.detour this
+          (subst (λ h. Stands es c.in_ok-detour.detour.number h) (λ j. edge Plain (c.head-2.ensures j) (fs j) c.in_ok-detour.detour.weight) d.4) d.3 this-is
           (given_stands m c.detour.new.list c.detour.new.work.count k _ (this_stands n e c.requires.loaded k c.requires.place x col))
           (omega (arith, ints, c.if-this-limit.false, fw, i.low, i.high, hz)));
     }

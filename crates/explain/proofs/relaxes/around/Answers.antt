@@ -33,7 +33,7 @@ join-requires-2 c =
     let q = c.args.q in
     let x = c.args.x in
     let nf = not_first n w l c.requires.holds c.args.p q x c.requires.place.0 c.requires.place.1 c.requires.place.2 c.requires.below in
-    let u = c.in-ok-join.ensures.told in
+    let u = c.in_ok-join.ensures.told in
     record {
       holds = u.holds;
       place = (n.counts.1.0, c.requires.place.1, c.requires.place.2);
@@ -53,7 +53,7 @@ returns c =
     let p = c.args.p in
     let q = c.args.q in
     let x = c.args.x in
-    let u = c.in-ok-join.ensures.told in
-    let t = c.in-ok-join.ensures.taken in
-    told_on m w c.join.new.work c.join-2.new.work l c.join.new.list c.join-2.new.list _ _ _ c.in-ok-join.field-0 c.join-2.result u c.join-2.ensures.told
+    let u = c.in_ok-join.ensures.told in
+    let t = c.in_ok-join.ensures.taken in
+    told_on m w c.join.new.work c.join-2.new.work l c.join.new.list c.join-2.new.list _ _ _ c.in_ok-join.field-0 c.join-2.result u c.join-2.ensures.told
     (λ r. absurd (omega (arith, ints, r, (u.holds.fair 0 x n.counts.1.0 c.requires.place.2).first refl, t, u.lower q x, late n w l c.requires.holds p c.requires.place.0, c.requires.below)))

@@ -10,8 +10,8 @@ use Rattle.explain.proofs.relaxes.chain.Goals as goal
 pub edge-requires : goal.edge-requires
 edge-requires c = let n = c.args.network.now in (c.requires.place.0, point_column (model n.content) c.args.q c.requires.place.1)
 
-pub overflow-add-left : goal.overflow-add-left
-overflow-add-left c =
+pub overflow_add-left : goal.overflow_add-left
+overflow_add-left c =
     let n = c.args.network.now in
     let m = model n.content in
     let w = c.args.work.now in

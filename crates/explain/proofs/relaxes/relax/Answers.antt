@@ -23,11 +23,11 @@ returns-then-weight-at c =
     let no-better : at w.best c.args.p c.args.x ≤ℤ c.args.step.makes.weight = omega (arith, ints, c.if-weight-at.true, ap (λ z. z.weight) c.at.ensures, range.0, range.1, near.0, near.1) in
     record { told = went_none (model n.content) w l c.requires.holds _ no-better; taken = no-better }
 
-pub overflow-add-number : goal.overflow-add-number
-overflow-add-number c = let n = c.args.network.now in omega (arith, c.given-count.ensures, given_few n, few n c.args.work.now c.args.list.now c.requires.holds)
+pub overflow_add-number : goal.overflow_add-number
+overflow_add-number c = let n = c.args.network.now in omega (arith, c.given_count.ensures, given_few n, few n c.args.work.now c.args.list.now c.requires.holds)
 
-pub overflow-cast-number : goal.overflow-cast-number
-overflow-cast-number c = let n = c.args.network.now in omega (arith, c.given-count.ensures, given_few n, few n c.args.work.now c.args.list.now c.requires.holds)
+pub overflow_cast-number : goal.overflow_cast-number
+overflow_cast-number c = let n = c.args.network.now in omega (arith, c.given_count.ensures, given_few n, few n c.args.work.now c.args.list.now c.requires.holds)
 
 pub returns-then-head-p : goal.returns-then-head-p
 returns-then-head-p c =
@@ -41,7 +41,7 @@ returns-then-head-p c =
     let range = c.requires.lawful.in_range in
     let near = near_at n w l c.requires.holds p x c.requires.place.0 c.requires.place.1 in
     let less : s.makes.weight <ℤ at w.best p x = omega (arith, ints, c.if-weight-at.false, ap (λ z. z.weight) c.at.ensures, range.0, range.1, near.0, near.1) in
-    let put = c.in-ok-write.ensures in
+    let put = c.in_ok-write.ensures in
     let itself : head_of m x ≡ p = sym c.head-head.ensures ∙ c.if-head-p.true in
     let zero = (c.requires.holds.fair p x c.requires.place.0 c.requires.place.1).self (sym itself) in
     let source = ap (λ e. e.source) c.requires.way in
@@ -57,8 +57,8 @@ at-back-requires c =
     let m = model n.content in
     (omega (arith, c.head-head.ensures, point_room n (head_of m c.args.x) (head_in m (well_made n) c.args.x c.requires.place.1)), column_room n c.args.p (point_column m c.args.p c.requires.place.0))
 
-pub overflow-add-back : goal.overflow-add-back
-overflow-add-back c =
+pub overflow_add-back : goal.overflow_add-back
+overflow_add-back c =
     let n = c.args.network.now in
     let m = model n.content in
     let w = c.args.work.now in
@@ -69,12 +69,12 @@ overflow-add-back c =
     let range = c.requires.lawful.in_range in
     let near = near_at n w l c.requires.holds p x c.requires.place.0 c.requires.place.1 in
     let less : s.makes.weight <ℤ at w.best p x = omega (arith, ints, c.if-weight-at.false, ap (λ z. z.weight) c.at.ensures, range.0, range.1, near.0, near.1) in
-    let put = c.in-ok-write.ensures in
+    let put = c.in_ok-write.ensures in
     let apart : p ≢ head_of m x = λ q. c.if-head-p.false (c.head-head.ensures ∙ sym q) in
     let low = c.requires.low apart in
     let v-is : to_z w32 (of_z w32 s.makes.weight) ≡ s.makes.weight = omega (arith, ints, range.0, range.1) in
-    let this : Best = record { weight = to_z w32 (of_z w32 s.makes.weight); number = c.given-count.result + w.count } in
-    let this-is : this ≡ record { weight = s.makes.weight; number = length (given m) + w.count } = λ i. record { weight = v-is i; number = c.given-count.ensures i + w.count } in
+    let this : Best = record { weight = to_z w32 (of_z w32 s.makes.weight); number = c.given_count.result + w.count } in
+    let this-is : this ≡ record { weight = s.makes.weight; number = length (given m) + w.count } = λ i. record { weight = v-is i; number = c.given_count.ensures i + w.count } in
     let table : c.put.new.self.best ≡ set w.best (p * 40 + x) (record { weight = s.makes.weight; number = length (given m) + w.count }) =
     c.put.ensures.table ∙ (λ i. set (put.3 i) (p * 40 + x) (this-is i)) in
     let count = c.put.ensures.steps ∙ put.2 in
@@ -95,12 +95,12 @@ close-requires c =
     let range = c.requires.lawful.in_range in
     let near = near_at n w l c.requires.holds p x c.requires.place.0 c.requires.place.1 in
     let less : s.makes.weight <ℤ at w.best p x = omega (arith, ints, c.if-weight-at.false, ap (λ z. z.weight) c.at.ensures, range.0, range.1, near.0, near.1) in
-    let put = c.in-ok-write.ensures in
+    let put = c.in_ok-write.ensures in
     let apart : p ≢ head_of m x = λ q. c.if-head-p.false (c.head-head.ensures ∙ sym q) in
     let low = c.requires.low apart in
     let v-is : to_z w32 (of_z w32 s.makes.weight) ≡ s.makes.weight = omega (arith, ints, range.0, range.1) in
-    let this : Best = record { weight = to_z w32 (of_z w32 s.makes.weight); number = c.given-count.result + w.count } in
-    let this-is : this ≡ record { weight = s.makes.weight; number = length (given m) + w.count } = λ i. record { weight = v-is i; number = c.given-count.ensures i + w.count } in
+    let this : Best = record { weight = to_z w32 (of_z w32 s.makes.weight); number = c.given_count.result + w.count } in
+    let this-is : this ≡ record { weight = s.makes.weight; number = length (given m) + w.count } = λ i. record { weight = v-is i; number = c.given_count.ensures i + w.count } in
     let table : c.put.new.self.best ≡ set w.best (p * 40 + x) (record { weight = s.makes.weight; number = length (given m) + w.count }) =
     c.put.ensures.table ∙ (λ i. set (put.3 i) (p * 40 + x) (this-is i)) in
     let count = c.put.ensures.steps ∙ put.2 in
@@ -126,12 +126,12 @@ returns-then-back-weight-lt0 c =
     let range = c.requires.lawful.in_range in
     let near = near_at n w l c.requires.holds p x c.requires.place.0 c.requires.place.1 in
     let less : s.makes.weight <ℤ at w.best p x = omega (arith, ints, c.if-weight-at.false, ap (λ z. z.weight) c.at.ensures, range.0, range.1, near.0, near.1) in
-    let put = c.in-ok-write.ensures in
+    let put = c.in_ok-write.ensures in
     let apart : p ≢ head_of m x = λ q. c.if-head-p.false (c.head-head.ensures ∙ sym q) in
     let low = c.requires.low apart in
     let v-is : to_z w32 (of_z w32 s.makes.weight) ≡ s.makes.weight = omega (arith, ints, range.0, range.1) in
-    let this : Best = record { weight = to_z w32 (of_z w32 s.makes.weight); number = c.given-count.result + w.count } in
-    let this-is : this ≡ record { weight = s.makes.weight; number = length (given m) + w.count } = λ i. record { weight = v-is i; number = c.given-count.ensures i + w.count } in
+    let this : Best = record { weight = to_z w32 (of_z w32 s.makes.weight); number = c.given_count.result + w.count } in
+    let this-is : this ≡ record { weight = s.makes.weight; number = length (given m) + w.count } = λ i. record { weight = v-is i; number = c.given_count.ensures i + w.count } in
     let table : c.put.new.self.best ≡ set w.best (p * 40 + x) (record { weight = s.makes.weight; number = length (given m) + w.count }) =
     c.put.ensures.table ∙ (λ i. set (put.3 i) (p * 40 + x) (this-is i)) in
     let count = c.put.ensures.steps ∙ put.2 in
@@ -153,12 +153,12 @@ returns c =
     let range = c.requires.lawful.in_range in
     let near = near_at n w l c.requires.holds p x c.requires.place.0 c.requires.place.1 in
     let less : s.makes.weight <ℤ at w.best p x = omega (arith, ints, c.if-weight-at.false, ap (λ z. z.weight) c.at.ensures, range.0, range.1, near.0, near.1) in
-    let put = c.in-ok-write.ensures in
+    let put = c.in_ok-write.ensures in
     let apart : p ≢ head_of m x = λ q. c.if-head-p.false (c.head-head.ensures ∙ sym q) in
     let low = c.requires.low apart in
     let v-is : to_z w32 (of_z w32 s.makes.weight) ≡ s.makes.weight = omega (arith, ints, range.0, range.1) in
-    let this : Best = record { weight = to_z w32 (of_z w32 s.makes.weight); number = c.given-count.result + w.count } in
-    let this-is : this ≡ record { weight = s.makes.weight; number = length (given m) + w.count } = λ i. record { weight = v-is i; number = c.given-count.ensures i + w.count } in
+    let this : Best = record { weight = to_z w32 (of_z w32 s.makes.weight); number = c.given_count.result + w.count } in
+    let this-is : this ≡ record { weight = s.makes.weight; number = length (given m) + w.count } = λ i. record { weight = v-is i; number = c.given_count.ensures i + w.count } in
     let table : c.put.new.self.best ≡ set w.best (p * 40 + x) (record { weight = s.makes.weight; number = length (given m) + w.count }) =
     c.put.ensures.table ∙ (λ i. set (put.3 i) (p * 40 + x) (this-is i)) in
     let count = c.put.ensures.steps ∙ put.2 in

@@ -7,5 +7,5 @@ use Rattle.explain.proofs.rounds.chain_by.Goals as goal
 
 pub loop-p-preserved : goal.loop-p-preserved
 loop-p-preserved c =
-    went_more (model c.args.network.now.content) c.args.work.now c.loop-p.work c.chain-from.new.work c.args.list.now c.loop-p.list c.chain-from.new.list (λ e k. Below (columns (model c.args.network.now.content)) (RuleN (model c.args.network.now.content) e k c.args.q)) c.loop-p.p c.loop-p.lowered c.in-ok-lowered.field-0 c.loop-p.invariant
-    c.in-ok-lowered.ensures
+    went_more (model c.args.network.now.content) c.args.work.now c.loop-p.work c.chain_from.new.work c.args.list.now c.loop-p.list c.chain_from.new.list (λ e k. Below (columns (model c.args.network.now.content)) (RuleN (model c.args.network.now.content) e k c.args.q)) c.loop-p.p c.loop-p.lowered c.in_ok-lowered.field-0 c.loop-p.invariant
+    c.in_ok-lowered.ensures

@@ -8,9 +8,9 @@ use Rattle.explain.proofs.tables.head.Goals as goal
 pub returns-then-x-points : goal.returns-then-x-points
 returns-then-x-points c = sym (head_point _ _ c.if-x-points.true)
 
-pub offset-bounds-network-x : goal.offset-bounds-network-x
+pub offset_bounds-network-x : goal.offset_bounds-network-x
 unfolding columns
-offset-bounds-network-x c = let n = c.args.network.now in omega (arith, span_count_is n, c.requires)
+offset_bounds-network-x c = let n = c.args.network.now in omega (arith, span_count_is n, c.requires)
 
 pub bounds-network-x : goal.bounds-network-x
 unfolding columns

@@ -8,9 +8,9 @@ use Rattle.explain.proofs.tables.kind.Goals as goal
 pub returns-then-x-points : goal.returns-then-x-points
 returns-then-x-points c = sym (kind_point _ _ c.if-x-points.true)
 
-pub overflow-cast-result : goal.overflow-cast-result
+pub overflow_cast-result : goal.overflow_cast-result
 unfolding columns
-overflow-cast-result c = let n = c.args.network.now in omega (arith, span_count_is n, c.requires)
+overflow_cast-result c = let n = c.args.network.now in omega (arith, span_count_is n, c.requires)
 
 pub returns : goal.returns
 unfolding wait_of

@@ -7,17 +7,17 @@ use Rattle.network.proofs.Parts.{span_count_is}
 use Rattle.steps.proofs.Numbers.{given_long, span_edge_at}
 use Rattle.explain.proofs.tables.lower_edge.Goals as goal
 
-pub overflow-mul-number-2 : goal.overflow-mul-number-2
-overflow-mul-number-2 c = let n = c.args.network.now in omega (arith, span_in n c.args.s c.requires)
+pub overflow_mul-number-2 : goal.overflow_mul-number-2
+overflow_mul-number-2 c = let n = c.args.network.now in omega (arith, span_in n c.args.s c.requires)
 
-pub overflow-add-number : goal.overflow-add-number
-overflow-add-number c = let n = c.args.network.now in omega (arith, span_in n c.args.s c.requires, n.counts.1.1)
+pub overflow_add-number : goal.overflow_add-number
+overflow_add-number c = let n = c.args.network.now in omega (arith, span_in n c.args.s c.requires, n.counts.1.1)
 
-pub overflow-add-number-2 : goal.overflow-add-number-2
-overflow-add-number-2 c = let n = c.args.network.now in omega (arith, span_in n c.args.s c.requires, n.counts.1.1)
+pub overflow_add-number-2 : goal.overflow_add-number-2
+overflow_add-number-2 c = let n = c.args.network.now in omega (arith, span_in n c.args.s c.requires, n.counts.1.1)
 
-pub overflow-cast-result-2 : goal.overflow-cast-result-2
-overflow-cast-result-2 c = let n = c.args.network.now in omega (arith, span_in n c.args.s c.requires, n.counts.1.1)
+pub overflow_cast-result-2 : goal.overflow_cast-result-2
+overflow_cast-result-2 c = let n = c.args.network.now in omega (arith, span_in n c.args.s c.requires, n.counts.1.1)
 
 pub returns : goal.returns
 returns c =

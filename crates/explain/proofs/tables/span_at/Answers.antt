@@ -3,8 +3,8 @@ use Rattle.network.proofs.Parts.{span_count_is, start_is, finish_is, least_is}
 use Rattle.network.proofs.Made.{span_in}
 use Rattle.explain.proofs.tables.span_at.Goals as goal
 
-pub offset-bounds-network-s : goal.offset-bounds-network-s
-offset-bounds-network-s c = let n = c.args.network.now in omega (arith, span_in n c.args.s c.requires)
+pub offset_bounds-network-s : goal.offset_bounds-network-s
+offset_bounds-network-s c = let n = c.args.network.now in omega (arith, span_in n c.args.s c.requires)
 
 pub bounds-network-s : goal.bounds-network-s
 bounds-network-s c = let n = c.args.network.now in omega (arith, span_in n c.args.s c.requires)

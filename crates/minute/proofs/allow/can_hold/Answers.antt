@@ -13,7 +13,7 @@ returns-then-t-a c =
       λ e. absurd (false≢true e),
       λ g.
           let h = held_needs (model n.content) (well_made n) c.args.closure.now c.args.t (marked c.args.late.now) (at c.args.minutes.now) c.args.q c.requires.fits c.requires.«open» g c.loop-p.p c.in-Some.a (omega arith) (sym c.in-Some.ensures) in
-          absurd (omega (arith, ints, c.distance-of.ensures)),
+          absurd (omega (arith, ints, c.distance_of.ensures)),
     )
 
 pub returns : goal.returns

@@ -8,22 +8,22 @@ use Rattle.minute.specs.Deciding.{WithinMinute}
 use Rattle.minute.proofs.Allowed.{gave_fits, held_fits}
 use Rattle.minute.proofs.decide.decide.Goals as goal
 
-pub returns-then-can-give : goal.returns-then-can-give
-returns-then-can-give c =
+pub returns-then-can_give : goal.returns-then-can_give
+returns-then-can_give c =
     let n = c.args.network.now in
-    let e = c.set-minute.ensures in
-    let g = c.can-give.ensures.0 c.if-can-give.true in
+    let e = c.set_minute.ensures in
+    let g = c.can_give.ensures.0 c.if-can_give.true in
     record {
       fits = subst (WithinMinute (model n.content) c.args.closure.now c.args.t (marked c.args.late.now)) (sym e)
           (gave_fits (model n.content) (well_made n) c.args.closure.now c.args.t (marked c.args.late.now) (at c.args.minutes.now) c.args.q c.requires.fits c.requires.«open» g);
       rule = inl (g, e, refl);
     }
 
-pub returns-else-can-give : goal.returns-else-can-give
-returns-else-can-give c =
+pub returns-else-can_give : goal.returns-else-can_give
+returns-else-can_give c =
     let n = c.args.network.now in
-    let e = c.set-mark.ensures in
-    let never : CanGive (model n.content) ((model n.content).horizon - c.args.t) c.args.t (at c.args.minutes.now) (marked c.args.late.now) c.args.q → ⊥ = λ g. both_ways c.can-give.result c.if-can-give.false (c.can-give.ensures.1 g) in
+    let e = c.set_mark.ensures in
+    let never : CanGive (model n.content) ((model n.content).horizon - c.args.t) c.args.t (at c.args.minutes.now) (marked c.args.late.now) c.args.q → ⊥ = λ g. both_ways c.can_give.result c.if-can_give.false (c.can_give.ensures.1 g) in
     record {
       fits = subst (λ l. WithinMinute (model n.content) c.args.closure.now c.args.t l (at c.args.minutes.now)) (sym e)
           (held_fits (model n.content) (well_made n) c.args.closure.now c.args.t (marked c.args.late.now) (at c.args.minutes.now) c.args.q c.requires.fits c.requires.«open» never);

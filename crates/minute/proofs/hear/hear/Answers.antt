@@ -12,35 +12,35 @@ use Rattle.minute.proofs.hear.hear.Goals as goal
 pub loop-s-init : goal.loop-s-init
 loop-s-init g c = none_new c.args.t (at c.args.minutes.now) _ (none_found (model c.args.network.now.content) (ended (model c.args.network.now.content) (at c.args.minutes.now) (g.K.Kitchen.spans c.args.kitchen.now)))
 
-pub minute-of-requires : goal.minute-of-requires
-minute-of-requires g c = let h = finish_in c.args.network.now c.loop-s.s c.span-of-span.result (omega arith) c.span-of-span.ensures in omega arith
+pub minute_of-requires : goal.minute_of-requires
+minute_of-requires g c = let h = finish_in c.args.network.now c.loop-s.s c.span_of-span.result (omega arith) c.span_of-span.ensures in omega arith
 
 pub loop-s-preserved-in-Some : goal.loop-s-preserved-in-Some
 loop-s-preserved-in-Some g c =
     let n = c.args.network.now in
     over_already (model n.content) (well_made n) (at c.args.minutes.now) (g.K.Kitchen.spans c.args.kitchen.now) c.args.t c.loop-s.s (omega arith) (at c.loop-s.minutes) c.loop-s.invariant _
-    (sym (ap (at c.loop-s.minutes) c.span-of-span.ensures.finish) ∙ sym c.in-Some.ensures)
+    (sym (ap (at c.loop-s.minutes) c.span_of-span.ensures.finish) ∙ sym c.in-Some.ensures)
 
-pub loop-s-preserved-then-not-has-ended : goal.loop-s-preserved-then-not-has-ended
-loop-s-preserved-then-not-has-ended g c =
+pub loop-s-preserved-then-not-has_ended : goal.loop-s-preserved-then-not-has_ended
+loop-s-preserved-then-not-has_ended g c =
     let n = c.args.network.now in
     on_still (model n.content) (well_made n) (at c.args.minutes.now) (g.K.Kitchen.spans c.args.kitchen.now) c.args.t c.loop-s.s (omega arith) (at c.loop-s.minutes) c.loop-s.invariant
-    (sym c.has-ended.ensures ∙ c.if-not-has-ended.true)
+    (sym c.has_ended.ensures ∙ c.if-not-has_ended.true)
 
-pub set-minute-requires : goal.set-minute-requires
-set-minute-requires g c =
-    let h = finish_in c.args.network.now c.loop-s.s c.span-of-span.result (omega arith) c.span-of-span.ensures in
-    (omega arith, sym c.in-default.ensures)
+pub set_minute-requires : goal.set_minute-requires
+set_minute-requires g c =
+    let h = finish_in c.args.network.now c.loop-s.s c.span_of-span.result (omega arith) c.span_of-span.ensures in
+    (omega arith, sym c.in_default.ensures)
 
 pub loop-s-preserved : goal.loop-s-preserved
 loop-s-preserved g c =
     let n = c.args.network.now in
     let now = at c.loop-s.minutes in
-    c.set-minute.ensures
-    ∙ ap (λ p. after c.args.t (only p) now) c.span-of-span.ensures.finish
+    c.set_minute.ensures
+    ∙ ap (λ p. after c.args.t (only p) now) c.span_of-span.ensures.finish
     ∙ ends_now (model n.content) (well_made n) (at c.args.minutes.now) (g.K.Kitchen.spans c.args.kitchen.now) c.args.t c.loop-s.s (omega arith) now c.loop-s.invariant
-    (sym c.has-ended.ensures ∙ c.if-not-has-ended.false)
-    (sym (ap now c.span-of-span.ensures.finish) ∙ sym c.in-default.ensures)
+    (sym c.has_ended.ensures ∙ c.if-not-has_ended.false)
+    (sym (ap now c.span_of-span.ensures.finish) ∙ sym c.in_default.ensures)
 
 pub returns : goal.returns
 returns g c =

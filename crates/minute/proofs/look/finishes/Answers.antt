@@ -12,13 +12,13 @@ use Rattle.minute.proofs.look.finishes.Goals as goal
 pub loop-s-init : goal.loop-s-init
 loop-s-init c = fun_ext (λ p. unmarked 32 p ∙ sym (none_found (model c.args.network.now.content) (λ _. true) p))
 
-pub set-mark-requires : goal.set-mark-requires
-set-mark-requires c = let h = finish_in c.args.network.now c.loop-s.s c.span-of-span.result (omega arith) c.span-of-span.ensures in omega arith
+pub set_mark-requires : goal.set_mark-requires
+set_mark-requires c = let h = finish_in c.args.network.now c.loop-s.s c.span_of-span.result (omega arith) c.span_of-span.ensures in omega arith
 
 pub loop-s-preserved : goal.loop-s-preserved
 loop-s-preserved c =
     let card = model c.args.network.now.content in
-    c.set-mark.ensures ∙ ap (λ f. also f c.span-of-span.result.finish) c.loop-s.invariant ∙ ap (also _) c.span-of-span.ensures.finish ∙ sym (added card (λ _. true) c.loop-s.s refl)
+    c.set_mark.ensures ∙ ap (λ f. also f c.span_of-span.result.finish) c.loop-s.invariant ∙ ap (also _) c.span_of-span.ensures.finish ∙ sym (added card (λ _. true) c.loop-s.s refl)
 
 pub returns : goal.returns
 returns c = c.loop-s.invariant ∙ found_finishes (model c.args.network.now.content) c.loop-s.s (omega arith)

@@ -3,8 +3,8 @@ use Rattle.network.proofs.Parts.{span_count_is, start_is, finish_is, least_is, m
 use Rattle.minute.proofs.Plain.{span_known}
 use Rattle.minute.proofs.look.span_of.Goals as goal
 
-pub offset-bounds-network-s : goal.offset-bounds-network-s
-offset-bounds-network-s c = let h = span_known c.args.network.now c.args.s c.requires in omega arith
+pub offset_bounds-network-s : goal.offset_bounds-network-s
+offset_bounds-network-s c = let h = span_known c.args.network.now c.args.s c.requires in omega arith
 
 pub bounds-network-s : goal.bounds-network-s
 bounds-network-s c = let h = span_known c.args.network.now c.args.s c.requires in omega arith
