@@ -18,18 +18,18 @@ returns-in-Some c =
       kept = c.drop-trial.ensures ∙ restored n.content _;
     }
 
-pub on-trial-network-requires : goal.on-trial-network-requires
-on-trial-network-requires c = tie_kept c.args.self.now.network c.args.tie (sym c.among_fault.ensures ∙ c.in-default.is) (omega arith)
+pub on_trial-network-requires : goal.on_trial-network-requires
+on_trial-network-requires c = tie_kept c.args.self.now.network c.args.tie (sym c.among_fault.ensures ∙ c.in_default.is) (omega arith)
 
 pub returns : goal.returns
 returns c =
     let n = c.args.self.now.network in
     let card = model n.content in
-    let free : try_fault card c.args.tie ≡ None = sym c.among_fault.ensures ∙ c.in-default.is in
-    let is : model c.on-trial-network.result.content ≡ with_tie card c.args.tie = ap model c.on-trial-network.ensures ∙ model_tie n c.args.tie (omega arith) in
-    let right : Marks (with_tie card c.args.tie) c.mark-of.result = subst (λ k. Marks k c.mark-of.result) is c.mark-of.ensures in
+    let free : try_fault card c.args.tie ≡ None = sym c.among_fault.ensures ∙ c.in_default.is in
+    let is : model c.on_trial-network.result.content ≡ with_tie card c.args.tie = ap model c.on_trial-network.ensures ∙ model_tie n c.args.tie (omega arith) in
+    let right : Marks (with_tie card c.args.tie) c.mark_of.result = subst (λ k. Marks k c.mark_of.result) is c.mark_of.ensures in
     record {
       mark = (free, right);
-      built = for_built card (λ k. Tried k c.args.tie (Ok c.mark-of.result)) (free, right);
+      built = for_built card (λ k. Tried k c.args.tie (Ok c.mark_of.result)) (free, right);
       kept = c.drop-trial-2.ensures ∙ restored n.content _;
     }
