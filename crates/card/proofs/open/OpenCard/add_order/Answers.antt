@@ -5,4 +5,4 @@ use Rattle.card.proofs.open.OpenCard.add_order.Goals as goal
 pub invariant_of-self : goal.invariant_of-self
 invariant_of-self c =
     let n = c.args.self.now.network in
-    (few_ties c.add_order.new.self _ c.add_order.ensures.card (ordered_few (model n.content) (ties_few n c.args.self.now.room)), tt)
+    record { room = few_ties c.add_order.new.self _ c.add_order.ensures.card (ordered_few (model n.content) (ties_few n c.args.self.now.room)) }

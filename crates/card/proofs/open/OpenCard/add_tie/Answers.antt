@@ -5,4 +5,4 @@ use Rattle.card.proofs.open.OpenCard.add_tie.Goals as goal
 pub invariant_of-self : goal.invariant_of-self
 invariant_of-self c =
     let n = c.args.self.now.network in
-    (few_ties c.add_tie.new.self _ c.add_tie.ensures.card (tied_few (model n.content) (ties_few n c.args.self.now.room) c.args.tie), tt)
+    record { room = few_ties c.add_tie.new.self _ c.add_tie.ensures.card (tied_few (model n.content) (ties_few n c.args.self.now.room) c.args.tie) }

@@ -5,4 +5,4 @@ use Rattle.card.proofs.open.OpenCard.open.Goals as goal
 pub invariant_of-self : goal.invariant_of-self
 invariant_of-self c =
     let n = c.args.self.now.network in
-    (few_ties c.open.new.self _ c.open.ensures.card (opened_few (model n.content) (ties_few n c.args.self.now.room) c.args.horizon), tt)
+    record { room = few_ties c.open.new.self _ c.open.ensures.card (opened_few (model n.content) (ties_few n c.args.self.now.room) c.args.horizon) }

@@ -5,8 +5,8 @@ use Rattle.minute.proofs.Arrays.{unhappened}
 use Rattle.run.proofs.Stand.{stands_first}
 use Rattle.run.proofs.run.Run.fresh.Goals as goal
 
-pub invariant-of-result : goal.invariant-of-result
-invariant-of-result c = (∣ (λ e. stands_first (model c.args.card.network.content) c.args.closure (at (replicate 32 None)) (c.requires e) (unhappened 32)) ∣₁, tt)
+pub invariant_of-result : goal.invariant_of-result
+invariant_of-result c = (∣ (λ e. stands_first (model c.args.card.network.content) c.args.closure (at (replicate 32 None)) (c.requires e) (unhappened 32)) ∣₁, tt)
 
 pub returns : goal.returns
 returns c = record { card = refl; live = refl; next = refl; nothing = unhappened 32 }
