@@ -18,4 +18,4 @@ play_minute-count-requires g c =
 pub invariant_of-self : goal.invariant_of-self
 invariant_of-self g c =
     let r = c.args.self.now in
-    (∣ (λ _. subst (λ (n : Network). Standing (model n.content) r.closure (r.next + 1) (at c.play_minute-count.new.minutes)) c.network.ensures c.play_minute-count.ensures.stands) ∣₁, tt)
+    record { ok = ∣ (λ _. subst (λ (n : Network). Standing (model n.content) r.closure (r.next + 1) (at c.play_minute-count.new.minutes)) c.network.ensures c.play_minute-count.ensures.stands) ∣₁ }
