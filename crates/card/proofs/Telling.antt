@@ -3,7 +3,7 @@ use Rattle.std.proofs.Common.{◌≡◌, ℕ, List, Ok, Result, sym, ap, ◌∙�
 use Rattle.rules.specs.declared.edges.Step.{Step}
 use Rattle.rules.specs.declared.refusal.Refusal.{Refusal}
 use Rattle.rules.specs.Card.{Card, WellMade}
-use Rattle.rules.specs.Calls.{Call, is_closed, built, card_of}
+use Rattle.rules.specs.Calls.{card_of}
 use Rattle.rules.specs.Game.{Good}
 use Rattle.rules.specs.Steps.{Answer, passes, unlawful, no_loop, Reads}
 use Rattle.rules.proofs.Listed.{lists_tell}

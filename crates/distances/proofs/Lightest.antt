@@ -1,5 +1,5 @@
 -- The lightest edge of a list that grows, and the edges that are given.
-use Rattle.std.proofs.Common.{◌≡◌, ℕ, zero, suc, ◌+◌, ◌<◌, ◌≤◌, Bool, true, false, cond, ◌&&◌, T, eqb, List, [], ◌∷◌, ◌++◌, length, get_or, take, replicate, ℤ, pos, negsuc, neg_ℤ, nat_abs, ◌≤ℤ◌, Some, None, Option, sym, refl, ap, ◌∙◌, subst, arith, eqb→eq}
+use Rattle.std.proofs.Common.{◌≡◌, ℕ, zero, suc, ◌+◌, ◌≤◌, Bool, true, false, cond, ◌&&◌, T, eqb, List, [], ◌∷◌, ◌++◌, get_or, take, replicate, ℤ, pos, negsuc, nat_abs, ◌≤ℤ◌, Some, None, sym, refl, ap, ◌∙◌, subst, arith, eqb→eq}
 use native.Mathlib.Decide.{ℕ_discrete}
 use lib.Dec.{eqb_refl}
 use Rattle.rules.proofs.Flags.{so}
@@ -8,11 +8,10 @@ use Rattle.steps.proofs.Reading.{edge_known}
 use Rattle.std.proofs.ByRecursion.{All-get_or}
 use lib.Signed.{lt_z}
 use Rattle.std.specs.List.{AllByRecursion}
-use Rattle.std.proofs.lemmas.List.{take_more, take_all}
+use Rattle.std.proofs.lemmas.List.{take_more}
 use Rattle.std.proofs.lemmas.Int.{ints}
 use Rattle.rules.specs.declared.edges.Kind.TheVariants.{Plain}
 use Rattle.rules.specs.declared.edges.Edge.{Edge}
-use Rattle.rules.specs.Card.{Card, WellMade, most_of, least_of, gap_of, span_count, tie_count}
 use Rattle.rules.specs.Edges.{Given, given_late, given_early, given_most, given_least, given_lower, given_wait, given_tie}
 use Rattle.rules.specs.Steps.{given, no_edge, edge_at}
 use Rattle.walks.specs.declared.minutes.Minutes.{Minutes}
@@ -22,7 +21,7 @@ use Rattle.walks.specs.Wholes.{lesser_assoc}
 use Rattle.network.specs.declared.network.Network.{Network}
 use Rattle.network.specs.Model.{model}
 use Rattle.network.proofs.Made.{well_made, most_in, gap_in}
-use Rattle.distances.specs.Distances.{Near, is_plain, weight_of, lightest, between}
+use Rattle.distances.specs.Distances.{Near, is_plain, weight_of, lightest}
 
 lesser_none : (a : Whole) → lesser a None ≡ a
 lesser_none None = refl

@@ -1,12 +1,12 @@
 -- What the end of a search tells of the list.
-use Rattle.std.proofs.Common.{◌≡◌, ℕ, suc, ◌+◌, ◌-◌, ◌<◌, ◌≤◌, List, length, get_or, take, drop, pos, ◌<ℤ◌, sym, refl, ap, ◌∙◌, subst, arith, length-take-le}
+use Rattle.std.proofs.Common.{◌≡◌, ℕ, suc, ◌+◌, ◌-◌, ◌<◌, ◌≤◌, List, length, take, drop, pos, ◌<ℤ◌, sym, ap, ◌∙◌, subst, arith, length-take-le}
 use Rattle.std.proofs.lemmas.List.{same_lists, get_or-take, get_or-drop, length-drop, get_or_default}
 use Rattle.rules.specs.declared.edges.Step.{Step}
 use Rattle.rules.specs.Card.{Card, WellMade}
 use Rattle.rules.specs.Game.{Good}
-use Rattle.rules.specs.Steps.{step_at, LawfulTo, AllLawful, Closing, passes, Reads}
+use Rattle.rules.specs.Steps.{step_at, LawfulTo, Closing, passes, Reads}
 use Rattle.rules.proofs.Listed.{lists_tell}
-use Rattle.explain.specs.Explained.{UsefulAt, Explains, Fills}
+use Rattle.explain.specs.Explained.{Explains, Fills}
 use Rattle.explain.specs.Working.{Onward, Shown, Full}
 use Rattle.explain.proofs.Writing.{Agree, lawful_agree, useful_agree}
 

@@ -1,9 +1,8 @@
 -- Steps by N and U, and how parts of the search follow one another.
-use Rattle.std.proofs.Common.{◌≡◌, ℕ, suc, ◌+◌, ◌<◌, ◌≤◌, Bool, true, false, ◌||◌, ◌≢◌, List, length, ℤ, pos, negsuc, ◌+ℤ◌, neg_ℤ, ◌≤ℤ◌, ◌<ℤ◌, Ok, Err, Result, sym, refl, ap, ◌∙◌, subst, arith, below_more}
+use Rattle.std.proofs.Common.{◌≡◌, ℕ, ◌+◌, ◌<◌, Bool, true, false, ◌||◌, ◌≢◌, List, pos, ◌+ℤ◌, neg_ℤ, ◌<ℤ◌, Ok, Err, Result, sym, refl, ◌∙◌, subst, arith, below_more}
 use Rattle.std.proofs.lemmas.Int.{ints}
 use Rattle.std.proofs.lemmas.Bool.{true≢false, false≢true}
 use Rattle.rules.specs.declared.edges.Kind.TheVariants.{Plain}
-use Rattle.rules.specs.declared.edges.Edge.{Edge}
 use Rattle.rules.specs.declared.edges.Step.{Step}
 use Rattle.rules.specs.Card.{Card}
 use Rattle.rules.specs.Edges.{edge}
@@ -13,8 +12,8 @@ use Rattle.network.specs.Model.{model}
 use Rattle.explain.specs.declared.work.Best.{Best}
 use Rattle.explain.specs.declared.work.Work.{Work}
 use Rattle.explain.specs.declared.work.Stop.{Stop}
-use Rattle.explain.specs.Columns.{best, at, columns, head_of, letter_of, way, height}
-use Rattle.explain.specs.Working.{Stands, Fair, Holds, Onward, Ended, Went, Told, Taken, Present, RuleN, Below}
+use Rattle.explain.specs.Columns.{best, at, columns, letter_of, way, height}
+use Rattle.explain.specs.Working.{Stands, Holds, Went, Told, Present, Below}
 use Rattle.explain.proofs.Columns.{head_point, point_column}
 use Rattle.explain.proofs.Joining.{way_point, by_chain}
 use Rattle.explain.proofs.Writing.{lawful_by, onward_then}

@@ -1,25 +1,23 @@
 -- A table that no rule lowers is closed and sound at the start, so the card is good.
-use Rattle.std.proofs.Common.{◌≡◌, ℕ, zero, suc, ◌+◌, ◌<◌, ◌≤◌, ◌≢◌, ◌⊎◌, List, ℤ, pos, negsuc, ◌+ℤ◌, neg_ℤ, ◌≤ℤ◌, ◌<ℤ◌, sym, refl, ap, ◌∙◌, subst, inl, inr, ⊎_elim, arith}
+use Rattle.std.proofs.Common.{◌≡◌, ℕ, ◌<◌, ◌≢◌, List, pos, ◌+ℤ◌, neg_ℤ, ◌≤ℤ◌, ◌<ℤ◌, sym, refl, ap, ◌∙◌, subst, arith}
 use native.Mathlib.Decide.{ℕ_discrete}
 use Rattle.std.proofs.lemmas.Int.{ints}
-use Rattle.rules.specs.declared.edges.Kind.{Kind}
-use Rattle.rules.specs.declared.edges.Kind.TheVariants.{Plain, Lower, Wait, AllMost}
 use Rattle.rules.specs.declared.edges.Edge.{Edge}
 use Rattle.rules.specs.declared.edges.Step.{Step}
-use Rattle.rules.specs.Card.{Card, WellMade, span_count, tie_count, start_of, finish_of, least_of, most_of, from_of, to_of, gap_of}
-use Rattle.rules.specs.Edges.{edge, Given, given_late, given_early, given_most, given_least, given_lower, given_wait, given_tie, Rule, rule_n, rule_u, rule_l, rule_x, rule_r, rule_m, rule_mw, rule_s, Early, Released}
+use Rattle.rules.specs.Card.{Card, WellMade, span_count, start_of, finish_of, least_of, most_of}
+use Rattle.rules.specs.Edges.{Given, given_late, given_early, given_most, given_least, given_lower, given_wait, given_tie, Rule, rule_n, rule_u, rule_l, rule_x, rule_r, rule_m, rule_mw, rule_s, Released}
 use Rattle.rules.specs.Game.{Good}
-use Rattle.rules.specs.Tables.{Table, Above, Entry, Closed, SoundAtStart}
+use Rattle.rules.specs.Tables.{Table, Above, Entry, SoundAtStart}
 use Rattle.rules.proofs.Strategy.{tables_win}
 use Rattle.network.specs.declared.network.Network.{Network}
 use Rattle.network.specs.Model.{model}
 use Rattle.network.proofs.Made.{well_made, start_before}
 use Rattle.explain.specs.declared.work.Best.{Best}
 use Rattle.explain.specs.declared.work.Work.{Work}
-use Rattle.explain.specs.Columns.{best, at, columns, wait_of, head_of}
-use Rattle.explain.specs.Working.{Fair, Covered, Holds, Present, RuleN, RuleL, RuleR, Below, Rounded}
-use Rattle.explain.proofs.Columns.{head_point, head_wait, point_column, wait_column, no_wait, wait_apart, head_in}
-use Rattle.explain.proofs.Holding.{given_covered, home, late, near_at}
+use Rattle.explain.specs.Columns.{at, columns, wait_of, head_of}
+use Rattle.explain.specs.Working.{Holds, Present, RuleN, Below, Rounded}
+use Rattle.explain.proofs.Columns.{head_point, head_wait, point_column, wait_column, no_wait, wait_apart}
+use Rattle.explain.proofs.Holding.{given_covered, home, late}
 
 module _ (n : Network) (work : Work) (steps : List Step) (h : Holds (model n.content) work steps) (rounded : Rounded (model n.content) work.best)
     (by_first : Below (model n.content).points (λ p. Below (columns (model n.content)) (RuleN (model n.content) work.best p 0))) where

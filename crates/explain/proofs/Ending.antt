@@ -1,17 +1,16 @@
 -- How a search ends: with a negative loop, or with a full list.
-use Rattle.std.proofs.Common.{◌≡◌, ℕ, suc, ◌+◌, ◌<◌, ◌≤◌, List, length, set, ℤ, pos, negsuc, ◌+ℤ◌, ◌≤ℤ◌, ◌<ℤ◌, Ok, Err, sym, refl, ap, ◌∙◌, subst, inl, inr, arith}
+use Rattle.std.proofs.Common.{◌≡◌, ℕ, suc, ◌<◌, List, length, set, pos, ◌+ℤ◌, ◌<ℤ◌, Ok, Err, sym, refl, ap, ◌∙◌, subst, inl, inr, arith}
 use Rattle.std.proofs.lemmas.Int.{ints}
-use Rattle.std.proofs.lemmas.Bool.{cases_lt}
 use Rattle.rules.specs.declared.edges.Edge.{Edge}
 use Rattle.rules.specs.declared.edges.Step.{Step}
-use Rattle.rules.specs.Card.{Card, WellMade}
-use Rattle.rules.specs.Steps.{step_at, known, LawfulStep}
+use Rattle.rules.specs.Card.{Card}
+use Rattle.rules.specs.Steps.{known, LawfulStep}
 use Rattle.explain.specs.declared.work.Best.{Best}
 use Rattle.explain.specs.declared.work.Work.{Work}
 use Rattle.explain.specs.declared.work.Stop.{Stop}
 use Rattle.explain.specs.declared.work.Stop.TheVariants.{Loop, Spent}
 use Rattle.explain.specs.Columns.{columns, head_of, letter_of, way}
-use Rattle.explain.specs.Working.{Stands, Written, Shown, Full, Onward, Ended, Put, Back}
+use Rattle.explain.specs.Working.{Written, Shown, Full, Onward, Ended, Put, Back}
 use Rattle.explain.proofs.Columns.{letter_point, letter_wait, column_is}
 use Rattle.explain.proofs.Joining.{by_chain}
 use Rattle.explain.proofs.Writing.{lawful_by, shown_more, onward_set, onward_then, full_now}

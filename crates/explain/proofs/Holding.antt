@@ -1,29 +1,29 @@
 -- What a table that holds tells, and that it holds again with a better edge.
-use Rattle.std.proofs.Common.{◌≡◌, ℕ, zero, suc, ◌+◌, ◌-◌, ◌*◌, ◌<◌, ◌≤◌, Bool, true, false, ◌≢◌, ◌⊎◌, List, [], ◌∷◌, ◌++◌, length, get_or, set, ℤ, pos, negsuc, ◌+ℤ◌, neg_ℤ, ◌≤ℤ◌, ◌<ℤ◌, sym, refl, ap, ◌∙◌, subst, inl, inr, ⊎_elim, arith, length-append, length-set}
+use Rattle.std.proofs.Common.{◌≡◌, ℕ, zero, suc, ◌+◌, ◌*◌, ◌<◌, ◌≤◌, true, false, ◌≢◌, List, [], ◌∷◌, ◌++◌, length, get_or, set, ℤ, pos, negsuc, ◌+ℤ◌, neg_ℤ, ◌≤ℤ◌, ◌<ℤ◌, sym, refl, ap, ◌∙◌, subst, ⊎_elim, arith, length-append, length-set}
 use native.Mathlib.Decide.{ℕ_discrete}
 use Rattle.std.proofs.lemmas.Int.{ints}
 use Rattle.std.proofs.lemmas.List.{get_or-set_same, get_or-set_other, get_or_append_left, get_or_push}
-use Rattle.std.proofs.lemmas.Bool.{cases_eq, cases_lt, true≢false, false≢true}
+use Rattle.std.proofs.lemmas.Bool.{cases_eq, true≢false, false≢true}
 use Rattle.rules.specs.declared.edges.Kind.{Kind}
 use Rattle.rules.specs.declared.edges.Kind.TheVariants.{Plain, Lower, Wait, AllMost}
 use Rattle.rules.specs.declared.edges.Edge.{Edge}
 use Rattle.rules.specs.declared.edges.Step.{Step}
-use Rattle.rules.specs.Card.{Card, WellMade, span_count, start_of}
+use Rattle.rules.specs.Card.{Card}
 use Rattle.rules.specs.Edges.{edge, Given, given_late, given_early}
 use Rattle.rules.specs.Steps.{given, no_edge, known, LawfulStep}
 use Rattle.rules.proofs.Numbered.{numbered}
 use Rattle.network.specs.declared.network.Network.{Network}
 use Rattle.network.specs.Model.{model}
-use Rattle.network.proofs.Parts.{span_count_is, tie_count_is}
+use Rattle.network.proofs.Parts.{span_count_is}
 use Rattle.network.proofs.Made.{well_made}
 use Rattle.steps.proofs.Numbers.{given_long}
 use Rattle.steps.proofs.Reading.{known_length}
 use Rattle.explain.specs.declared.work.Best.{Best}
 use Rattle.explain.specs.declared.work.Work.{Work}
-use Rattle.explain.specs.Columns.{no_best, best, at, columns, wait_of, head_of, kind_of, way, height}
+use Rattle.explain.specs.Columns.{no_best, best, at, columns, wait_of, head_of, way, height}
 use Rattle.explain.specs.Explained.{Useful}
 use Rattle.explain.specs.Working.{Stands, Written, Fair, CoveredAt, Covered, Covers, Holds, Went, Onward, Back}
-use Rattle.explain.proofs.Columns.{head_point, column_is, point_column, head_in, best_put, height_put}
+use Rattle.explain.proofs.Columns.{head_point, point_column, head_in, best_put, height_put}
 use Rattle.explain.proofs.Joining.{way_point, same_way, way_covered}
 use Rattle.explain.proofs.Writing.{stands_more, stands_new, written_more, known_set, onward_set, onward_none}
 

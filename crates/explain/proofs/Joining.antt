@@ -1,10 +1,8 @@
 -- The rules, by columns of the table.
-use Rattle.std.proofs.Common.{◌≡◌, ℕ, zero, suc, ◌+◌, ◌-◌, ◌<◌, ◌≤◌, ◌≢◌, ◌⊎◌, List, length, get_or, set, ℤ, pos, negsuc, ◌+ℤ◌, neg_ℤ, ◌≤ℤ◌, ◌<ℤ◌, Some, sym, refl, ap, ◌∙◌, subst, inl, inr, ⊎_elim, arith}
-use Rattle.std.proofs.lemmas.Int.{ints}
-use Rattle.rules.specs.declared.edges.Kind.{Kind}
-use Rattle.rules.specs.declared.edges.Kind.TheVariants.{Plain, Lower, Wait, AllMost}
+use Rattle.std.proofs.Common.{◌≡◌, ℕ, ◌<◌, ◌≢◌, List, ℤ, ◌+ℤ◌, ◌≤ℤ◌, Some, sym, ap, ◌∙◌, subst, ⊎_elim}
+use Rattle.rules.specs.declared.edges.Kind.TheVariants.{Plain, Lower, Wait}
 use Rattle.rules.specs.declared.edges.Edge.{Edge}
-use Rattle.rules.specs.Card.{Card, span_count, start_of, finish_of, least_of}
+use Rattle.rules.specs.Card.{Card, start_of}
 use Rattle.rules.specs.Edges.{edge, Rule, rule_n, rule_u, rule_l, rule_x, rule_r, Early, Released}
 use Rattle.explain.specs.declared.work.Best.{Best}
 use Rattle.explain.specs.Columns.{at, columns, wait_of, head_of, kind_of, letter_of, lower_of, way}

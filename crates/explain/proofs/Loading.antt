@@ -1,15 +1,13 @@
 -- The table of given edges: empty, then one edge after another.
-use Rattle.std.proofs.Common.{◌≡◌, ℕ, zero, suc, ◌+◌, ◌-◌, ◌*◌, ◌/◌, ◌%◌, ◌<◌, ◌≤◌, ◌≢◌, ◌⊎◌, List, length, get_or, set, ℤ, pos, negsuc, ◌+ℤ◌, neg_ℤ, ◌≤ℤ◌, ◌<ℤ◌, Some, None, Option, sym, refl, ap, ◌∙◌, subst, inl, inr, ⊎_elim, arith, length-set}
+use Rattle.std.proofs.Common.{◌≡◌, ℕ, suc, ◌+◌, ◌*◌, ◌/◌, ◌%◌, ◌<◌, ◌≤◌, ◌≢◌, ◌⊎◌, List, length, get_or, set, ℤ, pos, negsuc, ◌≤ℤ◌, ◌<ℤ◌, Some, None, Option, sym, refl, ap, ◌∙◌, subst, ⊎_elim, arith, length-set}
 use native.Mathlib.Decide.{ℕ_discrete}
 use Rattle.std.proofs.lemmas.Int.{ints, by_lt_z}
-use Rattle.std.proofs.lemmas.Bool.{cases_eq, cases_lt}
+use Rattle.std.proofs.lemmas.Bool.{cases_eq}
 use Rattle.std.proofs.lemmas.List.{get_or-set_same, get_or-set_other, get_or_default}
-use Rattle.std.specs.List.{AllByRecursion}
 use Rattle.std.proofs.ByRecursion.{All-get_or}
-use Rattle.rules.specs.declared.edges.Kind.{Kind}
-use Rattle.rules.specs.declared.edges.Kind.TheVariants.{Plain, Lower, Wait, AllMost}
+use Rattle.rules.specs.declared.edges.Kind.TheVariants.{Plain}
 use Rattle.rules.specs.declared.edges.Edge.{Edge}
-use Rattle.rules.specs.Card.{Card, WellMade, span_count, start_of, finish_of}
+use Rattle.rules.specs.Card.{Card, start_of, finish_of}
 use Rattle.rules.specs.Edges.{edge, Given, given_late, given_early, given_most, given_least, given_lower, given_wait, given_tie}
 use Rattle.rules.specs.Steps.{given, no_edge, edge_at}
 use Rattle.steps.proofs.Numbers.{edge_some}
@@ -18,8 +16,8 @@ use Rattle.network.specs.declared.network.Network.{Network}
 use Rattle.network.specs.Model.{model}
 use Rattle.network.proofs.Made.{well_made, start_before, most_in, gap_in, apart}
 use Rattle.explain.specs.declared.work.Best.{Best}
-use Rattle.explain.specs.Columns.{no_best, best, at, columns, wait_of, head_of, kind_of, way}
-use Rattle.explain.specs.Working.{Stands, CoveredAt, Covered, column_at, Blank, Loaded}
+use Rattle.explain.specs.Columns.{no_best, best, at, columns, head_of, way}
+use Rattle.explain.specs.Working.{Stands, Covered, column_at, Blank, Loaded}
 use Rattle.explain.proofs.Columns.{head_point, head_wait, point_column, wait_column, best_put}
 use Rattle.explain.proofs.Joining.{way_point, way_wait, way_covered}
 use Rattle.explain.proofs.Holding.{point_room, column_room, horizon_in, lowered, covered_still}

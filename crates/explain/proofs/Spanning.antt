@@ -1,5 +1,5 @@
 -- Steps by L, X and R.
-use Rattle.std.proofs.Common.{◌≡◌, ℕ, ◌<◌, ◌≢◌, List, ℤ, pos, ◌+ℤ◌, neg_ℤ, ◌≤ℤ◌, ◌<ℤ◌, sym, refl, ap, ◌∙◌, subst, ⊎_elim, arith}
+use Rattle.std.proofs.Common.{◌≡◌, ℕ, ◌<◌, ◌≢◌, List, pos, ◌+ℤ◌, ◌<ℤ◌, sym, refl, ap, ◌∙◌, ⊎_elim, arith}
 use Rattle.std.proofs.lemmas.Int.{ints}
 use Rattle.rules.specs.declared.edges.Kind.TheVariants.{Lower}
 use Rattle.rules.specs.declared.edges.Step.{Step}
@@ -11,7 +11,7 @@ use Rattle.network.specs.Model.{model}
 use Rattle.network.proofs.Made.{well_made, most_in}
 use Rattle.explain.specs.declared.work.Best.{Best}
 use Rattle.explain.specs.declared.work.Work.{Work}
-use Rattle.explain.specs.Columns.{best, at, columns, wait_of, head_of, lower_of, way}
+use Rattle.explain.specs.Columns.{best, at, columns, wait_of, lower_of, way}
 use Rattle.explain.specs.Working.{Stands, Holds, Present}
 use Rattle.explain.proofs.Columns.{column_is, lower_point, lower_wait, wait_column}
 use Rattle.explain.proofs.Joining.{by_lower, by_release}

@@ -1,12 +1,12 @@
 -- Given edges that make a negative loop with an edge back.
-use Rattle.std.proofs.Common.{◌≡◌, ℕ, zero, suc, ◌+◌, ◌-◌, ◌*◌, ◌<◌, ◌≤◌, ◌≢◌, ◌⊎◌, List, [], ◌∷◌, ◌++◌, length, get_or, set, ℤ, pos, negsuc, ◌+ℤ◌, neg_ℤ, ◌≤ℤ◌, ◌<ℤ◌, Some, None, Ok, Err, sym, refl, ap, ◌∙◌, subst, inl, inr, ⊎_elim, arith}
+use Rattle.std.proofs.Common.{◌≡◌, ℕ, suc, ◌+◌, ◌-◌, ◌*◌, ◌<◌, ◌≤◌, ◌≢◌, List, [], ◌∷◌, ◌++◌, length, get_or, set, ℤ, pos, negsuc, ◌+ℤ◌, neg_ℤ, ◌≤ℤ◌, ◌<ℤ◌, Some, Ok, sym, ap, ◌∙◌, subst, arith}
 use native.Mathlib.Decide.{ℕ_discrete}
 use Rattle.std.proofs.lemmas.Int.{ints, by_lt_z}
 use Rattle.std.proofs.lemmas.List.{get_or_default}
 use Rattle.rules.specs.declared.edges.Kind.TheVariants.{Plain}
 use Rattle.rules.specs.declared.edges.Edge.{Edge}
 use Rattle.rules.specs.declared.edges.Step.{Step}
-use Rattle.rules.specs.Card.{Card, WellMade}
+use Rattle.rules.specs.Card.{Card}
 use Rattle.rules.specs.Edges.{edge, Given, given_late, given_early, rule_n}
 use Rattle.rules.specs.Steps.{given, no_edge, known, LawfulStep}
 use Rattle.rules.proofs.Numbered.{numbered}
@@ -16,14 +16,14 @@ use Rattle.network.proofs.Made.{well_made}
 use Rattle.steps.proofs.Numbers.{point_at, given_long}
 use Rattle.explain.specs.declared.work.Best.{Best}
 use Rattle.explain.specs.declared.work.Work.{Work}
-use Rattle.explain.specs.Columns.{best, at, columns, head_of, way, height}
+use Rattle.explain.specs.Columns.{best, at, columns, head_of, way}
 use Rattle.explain.specs.Explained.{Useful}
 use Rattle.explain.specs.Working.{Stands, Written, Onward, Covered, column_at, Loaded, Tested, Put, Back, Fair, Holds}
 use Rattle.explain.proofs.Columns.{head_point, point_column, head_in, height_high}
 use Rattle.explain.proofs.Joining.{way_point, same_way, column_back}
 use Rattle.explain.proofs.Writing.{lawful_by, written_more, known_set, stands_new, onward_set}
 use Rattle.explain.proofs.Holding.{horizon_in}
-use Rattle.explain.proofs.Loading.{OfColumn, of_column, given_at, entry_given, near_loaded, some_same}
+use Rattle.explain.proofs.Loading.{OfColumn, of_column, given_at, near_loaded, some_same}
 
 -- nothing is written yet
 pub written_none : (card : Card) (steps : List Step) (k : ℕ) → k ≡ 0 → Written card steps k

@@ -1,12 +1,12 @@
 -- Lists of steps that agree at the beginning, and a step more.
-use Rattle.std.proofs.Common.{◌≡◌, ℕ, zero, suc, ◌+◌, ◌-◌, ◌<◌, ◌≤◌, ◌≢◌, ◌⊎◌, List, [], ◌∷◌, ◌++◌, length, get_or, take, drop, set, ℤ, pos, ◌<ℤ◌, sym, refl, ap, ◌∙◌, subst, ap₂, inl, inr, ⊎_elim, arith, length-append, length-set}
+use Rattle.std.proofs.Common.{◌≡◌, ℕ, zero, suc, ◌-◌, ◌<◌, ◌≢◌, List, [], ◌∷◌, ◌++◌, length, get_or, set, pos, ◌<ℤ◌, sym, refl, ap, ◌∙◌, subst, ap₂, arith, length-append, length-set}
 use native.Mathlib.Decide.{ℕ_discrete}
 use Rattle.std.proofs.lemmas.List.{get_or-set_same, get_or-set_other, get_or_append_left, get_or_push}
 use Rattle.rules.specs.declared.edges.Edge.{Edge}
 use Rattle.rules.specs.declared.edges.Step.{Step}
 use Rattle.rules.specs.Card.{Card}
 use Rattle.rules.specs.Edges.{Rule, InRange}
-use Rattle.rules.specs.Steps.{given, step_at, known, LawfulStep, LawfulAt, LawfulTo}
+use Rattle.rules.specs.Steps.{step_at, known, LawfulStep, LawfulAt, LawfulTo}
 use Rattle.explain.specs.Explained.{Useful, UsefulAt}
 use Rattle.explain.specs.Working.{Stands, Written, Shown, Full, Onward}
 

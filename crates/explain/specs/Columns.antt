@@ -1,5 +1,5 @@
 -- The table of best weights: a row for each point, and in it a column for each point and then for each span.
-use Rattle.std.specs.Prelude.{ℕ, ◌+◌, ◌-◌, ◌*◌, ◌<◌, cond, List, [], ◌∷◌, ℤ, pos, negsuc, nat_lt, slice_index_or}
+use Rattle.std.specs.Prelude.{ℕ, ◌+◌, ◌-◌, ◌*◌, cond, List, [], ◌∷◌, ℤ, pos, negsuc, nat_lt, slice_index_or}
 use Rattle.rules.specs.declared.edges.Kind.{Kind}
 use Rattle.rules.specs.declared.edges.Kind.TheVariants.{Plain, Wait}
 use Rattle.rules.specs.declared.edges.Edge.{Edge}

@@ -1,14 +1,14 @@
 -- How tables begin, and what they are worth once no rule lowers them.
-use Rattle.std.proofs.Common.{◌≡◌, ℕ, zero, suc, ◌+◌, ◌<◌, ◌≤◌, true, false, cond, ◌||◌, eqb, ◌≢◌, ◌⊎◌, ℤ, pos, negsuc, ◌+ℤ◌, ◌-ℤ◌, neg_ℤ, ◌≤ℤ◌, ◌<ℤ◌, sym, refl, ap, ◌∙◌, subst, inl, inr, ⊎_elim, arith}
+use Rattle.std.proofs.Common.{◌≡◌, ℕ, zero, suc, ◌<◌, ◌≢◌, pos, ◌+ℤ◌, ◌-ℤ◌, neg_ℤ, ◌≤ℤ◌, sym, refl, ap, ◌∙◌, subst, ⊎_elim, arith}
 use Rattle.std.proofs.lemmas.Int.{ints}
 use Rattle.std.proofs.lemmas.Bool.{cases_eq}
 use Rattle.std.proofs.lemmas.Bool.Decides.{nat_tests}
 use Rattle.rules.specs.declared.edges.Kind.TheVariants.{Plain, Wait, AllMost}
 use Rattle.rules.specs.declared.edges.Edge.{Edge}
-use Rattle.rules.specs.Card.{Card, WellMade, span_count, start_of, finish_of, least_of, most_of}
+use Rattle.rules.specs.Card.{Card, WellMade, span_count, start_of, finish_of, most_of}
 use Rattle.rules.specs.Edges.{edge, given_late, given_early, given_wait, rule_n, rule_u, rule_m, rule_mw, rule_s, Derived, by_given, by_rule, InRange}
 use Rattle.rules.proofs.Derived.{derived_wider}
-use Rattle.rules.proofs.Closure.{Rulewise, closed_by}
+use Rattle.rules.proofs.Closure.{closed_by}
 use Rattle.network.specs.declared.network.Network.{Network}
 use Rattle.network.specs.Model.{model}
 use Rattle.network.proofs.Made.{well_made, most_in}

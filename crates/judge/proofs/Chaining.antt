@@ -1,5 +1,5 @@
 -- Best walks of up to two edges over entries: what they propose is derived, and entries that do not undercut them keep N and U.
-use Rattle.std.proofs.Common.{◌≡◌, ℕ, suc, ◌/◌, ◌^◌, ◌<◌, ◌≤◌, ℤ, pos, negsuc, ◌+ℤ◌, nat_abs, ◌≤ℤ◌, ◌<ℤ◌, Some, None, Option, sym, refl, ap, ◌∙◌, subst, ap₂, arith}
+use Rattle.std.proofs.Common.{◌≡◌, ℕ, ◌<◌, ◌≤◌, ℤ, pos, negsuc, ◌+ℤ◌, nat_abs, ◌≤ℤ◌, Some, None, sym, refl, ap, ◌∙◌, ap₂, arith}
 use Rattle.std.proofs.lemmas.Int.{ints}
 use Rattle.rules.specs.Card.{Card, span_count}
 use Rattle.network.specs.declared.network.Network.{Network}
@@ -7,7 +7,7 @@ use Rattle.network.specs.Model.{model}
 use Rattle.walks.specs.Minutes.{Whole, sum, lesser, far}
 use Rattle.walks.specs.Pairs.{Pair, sum_pair, lesser_pair, far_pair}
 use Rattle.walks.specs.Walks.{Walk, edge, onward, edges, weight, Best, toward}
-use Rattle.walks.proofs.Bests.{whole_part, wait_part, Reached, AtMost, reached, least_one, least_two, least_one_to, least_two_to}
+use Rattle.walks.proofs.Bests.{whole_part, wait_part, reached, least_one, least_two, least_one_to, least_two_to}
 use Rattle.walks.proofs.Walking.{toward_other, toward_last}
 use Rattle.judge.specs.declared.closure.Closure.{Closure}
 use Rattle.judge.specs.declared.target.Target.{Target}

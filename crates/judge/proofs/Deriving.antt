@@ -1,21 +1,20 @@
 -- Derived entries: what the rules make of them, that they stay derived as tables fall, and loops.
-use Rattle.std.proofs.Common.{◌≡◌, ℕ, zero, suc, ◌+◌, ◌<◌, ◌≤◌, ◌≢◌, ◌⊎◌, ℤ, pos, negsuc, ◌+ℤ◌, neg_ℤ, ◌≤ℤ◌, ◌<ℤ◌, sym, refl, ap, ◌∙◌, subst, inl, inr, ⊎_elim, arith}
+use Rattle.std.proofs.Common.{◌≡◌, ℕ, ◌<◌, ◌≤◌, ℤ, pos, negsuc, ◌+ℤ◌, neg_ℤ, ◌≤ℤ◌, ◌<ℤ◌, sym, refl, ap, ◌∙◌, subst, ⊎_elim, arith}
 use Rattle.std.proofs.lemmas.Int.{ints}
 use Rattle.std.proofs.lemmas.Bool.{cases_eq}
 use Rattle.rules.specs.declared.edges.Kind.TheVariants.{Plain, Lower, Wait, AllMost}
 use Rattle.rules.specs.declared.edges.Edge.{Edge}
 use Rattle.rules.specs.Card.{Card, WellMade, span_count, tie_count, start_of, finish_of, least_of, most_of, from_of, to_of, gap_of}
-use Rattle.rules.specs.Edges.{edge, Given, given_most, given_least, given_lower, given_wait, given_tie, rule_n, rule_u, rule_l, rule_x, rule_r, rule_m, rule_mw, rule_s, Derived, by_given, by_rule, InRange, Early, Released}
+use Rattle.rules.specs.Edges.{edge, given_most, given_least, given_lower, given_wait, given_tie, rule_n, rule_u, rule_l, rule_x, rule_r, rule_m, rule_mw, rule_s, Derived, by_given, by_rule, InRange, Early, Released}
 use Rattle.rules.proofs.Derived.{derived_wider, above_lower}
 use Rattle.network.specs.declared.network.Network.{Network}
 use Rattle.network.specs.Model.{model}
-use Rattle.network.proofs.Parts.{span_count_is}
 use Rattle.network.proofs.Made.{well_made, most_in, gap_in}
 use Rattle.judge.specs.declared.closure.Closure.{Closure}
 use Rattle.judge.specs.declared.target.Target.{Target}
 use Rattle.judge.specs.declared.target.Target.TheVariants.{Point, Start}
 use Rattle.judge.specs.Closures.{distance, wait, entry}
-use Rattle.judge.specs.Closing.{In, head, edge_to, Off, Besides, Near, Next, next_given, next_rule, Doomed, Holds, Falls, Proposed}
+use Rattle.judge.specs.Closing.{In, head, edge_to, Besides, Near, Next, next_given, next_rule, Doomed, Holds, Falls, Proposed}
 
 -- ---- tables that fall
 

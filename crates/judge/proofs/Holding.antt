@@ -1,22 +1,20 @@
 -- What tables keep as an entry falls, and how the parts of a pass follow one another.
-use Rattle.std.proofs.Common.{◌≡◌, ℕ, zero, suc, ◌+◌, ◌<◌, ◌≤◌, Bool, true, false, ◌||◌, ◌≢◌, ◌⊎◌, ℤ, pos, negsuc, ◌+ℤ◌, neg_ℤ, ◌≤ℤ◌, ◌<ℤ◌, Ok, Err, Option, Result, sym, refl, ap, ◌∙◌, subst, inl, inr, ⊎_elim, arith, below_more}
+use Rattle.std.proofs.Common.{◌≡◌, ℕ, ◌+◌, ◌<◌, Bool, true, false, ◌||◌, ◌⊎◌, ℤ, pos, ◌+ℤ◌, neg_ℤ, ◌≤ℤ◌, ◌<ℤ◌, Ok, Err, Option, Result, sym, refl, ap, ◌∙◌, subst, ⊎_elim, arith, below_more}
 use Rattle.std.proofs.lemmas.Int.{ints}
 use Rattle.std.proofs.lemmas.Bool.{true≢false, false≢true}
-use Rattle.rules.specs.declared.edges.Edge.{Edge}
-use Rattle.rules.specs.Card.{Card, span_count, start_of}
+use Rattle.rules.specs.Card.{Card, span_count}
 use Rattle.rules.specs.Edges.{Derived}
 use Rattle.rules.proofs.Derived.{derived_wider}
 use Rattle.network.specs.declared.network.Network.{Network}
 use Rattle.network.specs.Model.{model}
 use Rattle.network.proofs.Parts.{span_count_is}
-use Rattle.network.proofs.Made.{well_made}
 use Rattle.judge.specs.declared.closure.Closure.{Closure}
 use Rattle.judge.specs.declared.target.Target.{Target}
 use Rattle.judge.specs.declared.target.Target.TheVariants.{Point, Start}
 use Rattle.judge.specs.declared.target.NegativeLoop.{NegativeLoop}
-use Rattle.judge.specs.Closures.{distance, wait, entry, Placed, Put}
-use Rattle.judge.specs.Closing.{In, head, edge_to, Off, Near, Next, Doomed, Holds, Falls, height, Went, Told, Proposed, Offered, Below}
-use Rattle.judge.proofs.Heights.{point_same, not_start, at_put, put_falls, height_drops}
+use Rattle.judge.specs.Closures.{distance, entry, Placed, Put}
+use Rattle.judge.specs.Closing.{In, head, edge_to, Off, Near, Holds, Falls, height, Went, Told, Proposed, Offered, Below}
+use Rattle.judge.proofs.Heights.{at_put, put_falls, height_drops}
 use Rattle.judge.proofs.Deriving.{near_falls, next_wider, derive, near_entry, head_in}
 
 -- ---- places are within the arrays

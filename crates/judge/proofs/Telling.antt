@@ -1,13 +1,9 @@
 -- Why a mark is right, and that goodness grows with the horizon.
-use Rattle.std.proofs.Common.{◌≡◌, ℕ, ◌≤◌, ◌↔◌, List, ℤ, ◌≤ℤ◌, sym, refl, subst, arith}
+use Rattle.std.proofs.Common.{◌≡◌, ℕ, ◌≤◌, refl, arith}
 use Rattle.std.proofs.lemmas.Int.{ints}
-use Rattle.rules.specs.declared.edges.Step.{Step}
 use Rattle.rules.specs.Card.{Card, WellMade, span_count, start_of, finish_of, least_of, most_of, tie_count, from_of, to_of, gap_of}
 use Rattle.rules.specs.Calls.{with_horizon}
-use Rattle.rules.specs.Edges.{Any}
 use Rattle.rules.specs.Game.{Good}
-use Rattle.rules.specs.Steps.{passes, Reads}
-use Rattle.rules.specs.Theorems.{Looser}
 use Rattle.rules.proofs.Derived.{derived_wider}
 use Rattle.rules.proofs.Listed.{lists_tell, loops_listed}
 use Rattle.rules.proofs.Looser.{looser_good}

@@ -1,5 +1,5 @@
 -- A closure in which a weight was written.
-use Rattle.std.proofs.Common.{◌≡◌, ℕ, ◌<◌, List, ℤ, pos, refl, ap, ◌∙◌}
+use Rattle.std.proofs.Common.{◌≡◌, ℕ, List, ℤ, pos, refl, ap, ◌∙◌}
 use Rattle.judge.specs.declared.closure.Closure.{Closure}
 use Rattle.judge.specs.declared.target.Target.{Target}
 use Rattle.judge.specs.declared.target.Target.TheVariants.{Point, Start}

@@ -1,14 +1,14 @@
 -- The tests of one order are exact.
-use Rattle.std.proofs.Common.{◌≡◌, ℕ, suc, ◌+◌, ◌-◌, ◌<◌, ◌≤◌, Bool, true, false, cond, T, eqb, ◌≢◌, ◌⊎◌, ℤ, pos, ◌+ℤ◌, ◌≤ℤ◌, Some, None, Option, sym, refl, ap, ◌∙◌, subst, inl, inr, ⊎_elim, arith}
+use Rattle.std.proofs.Common.{◌≡◌, ℕ, suc, ◌-◌, ◌<◌, ◌≤◌, Bool, true, false, T, eqb, ◌≢◌, ◌⊎◌, pos, ◌+ℤ◌, ◌≤ℤ◌, Some, None, Option, sym, refl, ap, ◌∙◌, subst, inl, inr, ⊎_elim, arith}
 use mathlib.Core.Path.{fun_ext}
 use mathlib.Core.Logic.{∥∥₁_elim}
 use native.Mathlib.Decide.{ℕ_discrete}
 use Rattle.std.proofs.lemmas.Int.{ints}
-use Rattle.rules.specs.Card.{Card, WellMade, span_count, start_of, finish_of, is_finish}
+use Rattle.rules.specs.Card.{Card, WellMade, span_count, start_of, is_finish}
 use Rattle.rules.specs.Game.{Position, after, only, also, CanGive, CanHold}
 use Rattle.rules.specs.Tables.{Traced, Fits, late}
 use Rattle.rules.specs.Theorems.{ChoiceExact}
-use Rattle.rules.proofs.Flags.{so, so_back, not_so}
+use Rattle.rules.proofs.Flags.{so, not_so}
 use Rattle.rules.proofs.Basics.{clash, same, known_by, decide, or_left, late_cases, held_late}
 use Rattle.rules.proofs.Closure.{Rulewise, rulewise}
 use Rattle.rules.proofs.Exact.{choices_exact}

@@ -1,8 +1,8 @@
 -- Positions and marks as arrays.
-use Rattle.std.proofs.Common.{◌≡◌, ℕ, zero, suc, ◌<◌, Bool, true, false, ◌||◌, eqb, ◌≢◌, List, length, get_or, set, replicate, Some, None, Option, sym, refl, ap, ◌∙◌, subst, ⊎_elim, get_or-set_other, get_or-set_same}
+use Rattle.std.proofs.Common.{◌≡◌, ℕ, zero, suc, ◌<◌, Bool, true, false, ◌||◌, ◌≢◌, List, length, get_or, set, replicate, Some, None, Option, sym, refl, ap, ◌∙◌, subst, ⊎_elim, get_or-set_other, get_or-set_same}
 use mathlib.Core.Path.{fun_ext}
 use Rattle.std.proofs.lemmas.Bool.{cases_eq, ne_eqb}
-use Rattle.rules.specs.Game.{Position, after, only, also}
+use Rattle.rules.specs.Game.{after, only, also}
 use Rattle.rules.proofs.Flags.{so}
 use Rattle.rules.proofs.Basics.{after_new, after_not, only_is, is_only, itself_also}
 use Rattle.minute.specs.Minutes.{at, marked, nothing_yet}

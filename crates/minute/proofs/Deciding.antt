@@ -1,12 +1,12 @@
 -- The loop of decisions, order by order.
-use Rattle.std.proofs.Common.{◌≡◌, ℕ, suc, ◌+◌, ◌-◌, ◌<◌, ◌≤◌, Bool, true, false, cond, ◌&&◌, ◌||◌, T, eqb, ltb, ◌≢◌, ◌⊎◌, Some, None, Option, sym, refl, ap, ◌∙◌, subst, ap₂, subst₂, inl, inr, ⊎_elim, arith}
+use Rattle.std.proofs.Common.{◌≡◌, ℕ, suc, ◌+◌, ◌-◌, ◌<◌, ◌≤◌, Bool, true, false, cond, ◌&&◌, ◌||◌, T, ltb, ◌≢◌, ◌⊎◌, Some, None, sym, refl, ap, ◌∙◌, subst, subst₂, inl, inr, ⊎_elim, arith}
 use mathlib.Core.Path.{fun_ext}
 use Rattle.std.proofs.lemmas.Bool.{cond-true, cond-false, lt-ltb, le-ltb, cases_eq, cases_lt}
 use Rattle.rules.specs.Card.{Card, is_finish}
 use Rattle.rules.specs.Game.{Position, after, only, also, no_point, Mid, CanGive}
 use Rattle.rules.specs.Tables.{Fits, late}
-use Rattle.rules.proofs.Flags.{so, so_back, not_so}
-use Rattle.rules.proofs.Basics.{clash, known_by, after_new, after_not, only_is, is_only, itself_also, or_cases, late_cases, finish_late, held_late}
+use Rattle.rules.proofs.Flags.{so, so_back}
+use Rattle.rules.proofs.Basics.{clash, after_new, after_not, only_is, is_only, itself_also, late_cases, finish_late, held_late}
 use Rattle.rules.proofs.Strategy.{minute_ends}
 use Rattle.judge.specs.declared.closure.Closure.{Closure}
 use Rattle.judge.specs.Closures.{distance, wait}

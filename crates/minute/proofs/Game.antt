@@ -1,5 +1,5 @@
 -- A minute by the rules keeps the win, by the game alone.
-use Rattle.std.proofs.Common.{◌≡◌, ℕ, zero, suc, ◌+◌, ◌-◌, ◌<◌, ◌≤◌, Bool, false, cond, T, eqb, ltb, ◌≢◌, ◌⊎◌, Some, None, sym, refl, ap, ◌∙◌, subst, subst₂, inl, inr, ⊎_elim, add-one, arith}
+use Rattle.std.proofs.Common.{◌≡◌, ℕ, zero, suc, ◌+◌, ◌-◌, ◌<◌, ◌≤◌, Bool, T, eqb, ltb, ◌≢◌, ◌⊎◌, Some, None, sym, refl, ap, ◌∙◌, subst, subst₂, inl, inr, ⊎_elim, add-one, arith}
 use mathlib.Core.Path.{fun_ext}
 use native.Mathlib.Decide.{ℕ_discrete}
 use Rattle.std.proofs.lemmas.Bool.{cond-true, cond-false, lt-ltb, le-ltb, cases_eq, cases_lt}
@@ -10,7 +10,7 @@ use Rattle.rules.proofs.Basics.{known_by, decide, or_left, after_new, after_not,
 use Rattle.rules.proofs.Exact.{gives_or_holds}
 use Rattle.minute.specs.Minutes.{is_none}
 use Rattle.minute.specs.Orders.{decided, passed, Ordered}
-use Rattle.minute.proofs.Deciding.{passed_here, passed_past, passed_before, passed_more, is_decided, same_held}
+use Rattle.minute.proofs.Deciding.{passed_here, passed_past, passed_before, passed_more, same_held}
 
 -- whatever spans end, the controller can win once it has heard them
 pub heard_wins : (card : Card) (k t : ℕ) (at : Position) (ends : ℕ → Bool) → Win card (suc k) t at → Lawful card t at ends → Mid card k t (heard card t ends at) no_point

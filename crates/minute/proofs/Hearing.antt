@@ -1,9 +1,9 @@
 -- The finishes of spans, found one after the other.
-use Rattle.std.proofs.Common.{◌≡◌, ℕ, zero, suc, ◌+◌, ◌<◌, ◌≤◌, Bool, true, false, cond, ◌&&◌, ◌||◌, T, eqb, ◌≢◌, ◌⊎◌, List, Some, None, Option, sym, refl, ap, ◌∙◌, subst, ap₂, inl, inr, ⊎_elim, add-one, arith}
+use Rattle.std.proofs.Common.{◌≡◌, ℕ, ◌+◌, ◌<◌, Bool, true, false, ◌&&◌, ◌||◌, T, eqb, List, Some, None, Option, sym, refl, ap, ◌∙◌, ap₂, ⊎_elim, add-one, arith}
 use mathlib.Core.Path.{fun_ext}
 use Rattle.std.proofs.lemmas.Bool.{eqb-true, eq-eqb, ne_eqb, cases_eq}
 use Rattle.rules.specs.Card.{Card, WellMade, span_count, finish_of, any_below, finish_among, is_finish}
-use Rattle.rules.specs.Game.{Position, settle, after, heard, only, also}
+use Rattle.rules.specs.Game.{Position, settle, after, only, also}
 use Rattle.rules.proofs.Flags.{so}
 use Rattle.rules.proofs.Basics.{any_is, and_right, after_back, after_none}
 use Rattle.kitchen.specs.declared.track.Track.{Track}

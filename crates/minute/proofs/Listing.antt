@@ -1,11 +1,11 @@
 -- The list of events, place by place.
-use Rattle.std.proofs.Common.{◌≡◌, ℕ, zero, suc, ◌+◌, ◌<◌, ◌≤◌, Bool, true, false, cond, not, ◌&&◌, ◌⊎◌, List, [], ◌∷◌, ◌++◌, length, get_or, take, drop, set, sym, refl, ap, ◌∙◌, subst, ap₂, inl, inr, ⊎_elim, add-zero, add-one, arith}
+use Rattle.std.proofs.Common.{◌≡◌, ℕ, zero, suc, ◌+◌, ◌<◌, ◌≤◌, Bool, true, false, cond, not, ◌&&◌, List, [], ◌∷◌, ◌++◌, length, get_or, take, drop, set, sym, refl, ap, ◌∙◌, ap₂, ⊎_elim, add-zero, add-one, arith}
 use Rattle.std.proofs.lemmas.List.{append_assoc, take-append-drop, length-append, length_push, length-take-le, set_at, drop_more, take_at, drop-drop, drop_at}
 use Rattle.std.proofs.lemmas.Bool.{cond-true, cond-false, cases_lt, cases_Bool}
 use Rattle.rules.specs.Card.{Card, is_finish}
 use Rattle.rules.specs.Game.{Position}
 use Rattle.minute.specs.Minutes.{is_at}
-use Rattle.minute.specs.Events.{listed, picks, written, events}
+use Rattle.minute.specs.Events.{listed, picks, written}
 
 pub listed_skip : (P : ℕ → Bool) (n : ℕ) → P n ≡ false → listed P (n + 1) ≡ listed P n
 listed_skip P n e = ap (listed P) (add-one n) ∙ cond-false (P n) (listed P n ++ n ∷ []) (listed P n) e

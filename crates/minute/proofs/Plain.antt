@@ -1,12 +1,12 @@
 -- What a network tells of its card, in plain terms.
-use Rattle.std.proofs.Common.{◌≡◌, ℕ, ◌<◌, ◌≤◌, false, T, sym, refl, ap, ◌∙◌, subst, arith}
+use Rattle.std.proofs.Common.{◌≡◌, ℕ, ◌<◌, ◌≤◌, false, arith}
 use Rattle.rules.specs.declared.parts.Span.{Span}
-use Rattle.rules.specs.Card.{span_count, start_of, finish_of, is_finish}
+use Rattle.rules.specs.Card.{span_count, is_finish}
 use Rattle.rules.proofs.Flags.{not_so}
 use Rattle.rules.proofs.Basics.{finish_is as the-span}
 use Rattle.network.specs.declared.network.Network.{Network}
 use Rattle.network.specs.Model.{model}
-use Rattle.network.proofs.Parts.{span_count_is, start_is, finish_is, least_is, most_is}
+use Rattle.network.proofs.Parts.{span_count_is}
 use Rattle.network.proofs.Made.{well_made}
 use Rattle.minute.specs.Minutes.{SpanIs}
 

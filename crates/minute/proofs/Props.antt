@@ -1,16 +1,13 @@
 -- Facts that have one proof at most, so that a ghost field can state them.
-use Rattle.std.proofs.Common.{◌≡◌, ℕ, Bool, ℤ, ◌≤ℤ◌, Some, None}
-use mathlib.Core.Logic.{∥∥₁_prop}
-use native.Mathlib.Bridge.{le_prop}
+use Rattle.std.proofs.Common.{ℕ, Bool, ℤ}
 use denote.Struct.Props.{props}
-use Rattle.rules.specs.Card.{Card, start_of, finish_of}
+use Rattle.rules.specs.Card.{Card}
 use Rattle.rules.specs.declared.edges.Kind.{Kind}
 use Rattle.rules.specs.declared.edges.Kind.TheVariants.{Plain, Lower, Wait, AllMost}
-use Rattle.rules.specs.Game.{Position, no_point}
+use Rattle.rules.specs.Game.{Position}
 use Rattle.rules.specs.Tables.{Table, AboveAt, Closed, SoundAtStart, Fits}
 use Rattle.rules.proofs.Basics.{option_set}
 use Rattle.judge.specs.declared.closure.Closure.{Closure}
-use Rattle.judge.specs.Closures.{distance, wait}
 use Rattle.minute.specs.Standing.{Sensible, Tight, Standing}
 
 above_prop : (D W : Table) (k : Kind) (p q : ℕ) (w : ℤ) → IsProp (AboveAt D W k p q w)

@@ -1,6 +1,6 @@
 -- What the two tests of an order work with: tables that win, and a position that fits them within minute t.
 use Rattle.std.specs.Prelude.{◌≡◌, ℕ, suc, ◌-◌, ◌<◌, ◌≤◌, Bool, cond, T, ◌⊎◌, pos, ◌+ℤ◌, ◌≤ℤ◌, Some, None, Option}
-use Rattle.rules.specs.Card.{Card, span_count, start_of, finish_of, is_finish}
+use Rattle.rules.specs.Card.{Card, start_of, finish_of, is_finish}
 use Rattle.rules.specs.Game.{Position, CanGive, after, only, also}
 use Rattle.rules.specs.Tables.{Table, Fits}
 use Rattle.judge.specs.declared.closure.Closure.{Closure}

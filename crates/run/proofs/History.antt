@@ -1,19 +1,19 @@
 -- The law of whole runs, by induction on the minutes played.
-use Rattle.std.proofs.Common.{◌≡◌, ℕ, zero, suc, ◌+◌, ◌-◌, ◌<◌, ◌≤◌, Bool, true, false, ◌&&◌, ltb, leb, ◌⊎◌, List, length, Some, None, sym, refl, ap, ◌∙◌, subst, subst₂, inl, inr, ⊎_elim, add-one, arith}
+use Rattle.std.proofs.Common.{◌≡◌, ℕ, zero, suc, ◌+◌, ◌-◌, ◌<◌, ◌≤◌, Bool, true, false, ◌&&◌, leb, List, length, sym, refl, ap, ◌∙◌, subst, subst₂, ⊎_elim, add-one, arith}
 use Rattle.std.proofs.lemmas.Bool.{false≢true, cases_lt, lt-ltb, le-leb, ltb-true}
 use Rattle.rules.specs.declared.refusal.Refusal.{Refusal}
 use Rattle.rules.specs.Card.{Card, WellMade, span_count, least_of, most_of}
-use Rattle.rules.specs.Game.{Position, Good, Win, Done, Mid, opening, heard, no_point}
+use Rattle.rules.specs.Game.{Position, Good, Win, Mid, opening, heard, no_point}
 use Rattle.kitchen.specs.declared.track.Track.{Track}
 use Rattle.kitchen.specs.declared.track.Status.{Status}
 use Rattle.kitchen.specs.declared.track.Status.TheVariants.{Cold, On, Done as Over}
 use Rattle.kitchen.specs.Tracks.{within, fit}
 use Rattle.kitchen.specs.Kitchens.{Lawful, Next, Stepped, Advanced, begun as begun-span}
-use Rattle.kitchen.specs.Parts.{Parts, parts, whole}
+use Rattle.kitchen.specs.Parts.{parts, whole}
 use Rattle.minute.specs.Minutes.{nothing_yet}
 use Rattle.minute.specs.Meets.{track_at, Within, FitsCard, Agrees, Ready}
 use Rattle.minute.specs.Standing.{Sensible}
-use Rattle.minute.specs.Played.{Meaning, Minute, Heard, Starts, StartIf, starting, ended}
+use Rattle.minute.specs.Played.{Meaning, Minute, Starts, StartIf, starting, ended}
 use Rattle.minute.proofs.Starting.{kindled, starts_long, starts_beyond, starts_each}
 use Rattle.minute.proofs.Middle.{Midway, midway, law, opening_law, none_heard}
 use Rattle.minute.proofs.After.{sensible_again, agrees_again}
@@ -22,7 +22,7 @@ use Rattle.network.specs.Model.{model}
 use Rattle.run.specs.declared.run.Run.{Run}
 use Rattle.run.specs.Runs.{Stage, stage}
 use Rattle.run.specs.Plays.{Accepted, Fault, barred, played, short, unfit, disagrees}
-use Rattle.run.specs.Whole.{bare, Partner, History, begun, more, HistoryOf, Kept, RunsWin}
+use Rattle.run.specs.Whole.{bare, Partner, History, begun, more, HistoryOf, RunsWin}
 use Rattle.run.proofs.Stand.{sensible_first}
 
 -- ---- a kitchen's spans over a minute

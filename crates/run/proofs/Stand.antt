@@ -1,5 +1,5 @@
 -- What a live run keeps, taken out of its ghost field, and what a run keeps that has just begun.
-use Rattle.std.proofs.Common.{◌≡◌, ℕ, true, None, sym, refl, ap, arith}
+use Rattle.std.proofs.Common.{◌≡◌, true, ap, arith}
 use mathlib.Core.Logic.{∥∥₁_elim}
 use Rattle.rules.specs.Card.{Card, WellMade, finish_of}
 use Rattle.rules.specs.Game.{Position, Good}

@@ -1,4 +1,4 @@
-use Rattle.std.proofs.Common.{◌≡◌, sym, refl, ap, ◌∙◌}
+use Rattle.std.proofs.Common.{sym, ap, ◌∙◌}
 use Rattle.rules.specs.Steps.{given}
 use Rattle.network.specs.Model.{model}
 use Rattle.steps.proofs.Reading.{edge_unknown}

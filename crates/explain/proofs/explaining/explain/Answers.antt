@@ -1,4 +1,4 @@
-use Rattle.std.proofs.Common.{◌≡◌, subst}
+use Rattle.std.proofs.Common.{subst}
 use Rattle.network.specs.Model.{model}
 use Rattle.network.proofs.Made.{well_made}
 use Rattle.explain.specs.Working.{Onward, Ended}

@@ -1,4 +1,4 @@
-use Rattle.std.proofs.Common.{◌≡◌, sym, refl, ap, ◌∙◌, subst}
+use Rattle.std.proofs.Common.{sym, subst}
 use Rattle.network.specs.Model.{model}
 use Rattle.explain.specs.Working.{Holds, Saturated}
 use Rattle.explain.proofs.Testing.{holds_first}

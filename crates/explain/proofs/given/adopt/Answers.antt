@@ -1,10 +1,9 @@
-use Rattle.std.proofs.Common.{◌≡◌, suc, ◌+◌, ◌*◌, ◌<◌, length, get_or, set, ◌≤ℤ◌, ◌<ℤ◌, Some, None, sym, refl, ap, ◌∙◌, subst, arith, w32, to_z, of_z}
+use Rattle.std.proofs.Common.{◌≡◌, suc, ◌+◌, ◌*◌, get_or, set, ◌≤ℤ◌, ◌<ℤ◌, Some, None, sym, refl, ap, ◌∙◌, subst, arith, w32, to_z, of_z}
 use Rattle.std.proofs.lemmas.Int.{ints}
 use Rattle.rules.specs.Steps.{given, no_edge}
 use Rattle.network.specs.Model.{model}
-use Rattle.explain.specs.declared.work.Best.{Best}
-use Rattle.explain.specs.Columns.{at, best}
-use Rattle.explain.specs.Working.{column_at, Covered, Loaded}
+use Rattle.explain.specs.Columns.{at}
+use Rattle.explain.specs.Working.{column_at, Loaded}
 use Rattle.explain.proofs.Holding.{point_room, column_room, given_few}
 use Rattle.explain.proofs.Loading.{found_edge, edge_there, given_at, no_column, of_it, no_worse, near_loaded, loaded_same, loaded_put}
 use Rattle.explain.proofs.given.adopt.Goals as goal

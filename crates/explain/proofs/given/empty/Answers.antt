@@ -1,4 +1,4 @@
-use Rattle.std.proofs.Common.{◌≡◌, refl, ◌∙◌, arith, length-set}
+use Rattle.std.proofs.Common.{refl, ◌∙◌, arith, length-set}
 use Rattle.network.specs.Model.{model}
 use Rattle.network.proofs.Parts.{span_count_is}
 use Rattle.explain.specs.Columns.{columns}

@@ -1,4 +1,4 @@
-use Rattle.std.proofs.Common.{◌≡◌, get_or, sym, refl, ap, ◌∙◌, subst, arith, below_more}
+use Rattle.std.proofs.Common.{get_or, ◌∙◌, subst, arith, below_more}
 use Rattle.rules.specs.Steps.{given, no_edge}
 use Rattle.network.specs.Model.{model}
 use Rattle.explain.specs.Working.{Tested}

@@ -1,15 +1,13 @@
-use Rattle.std.proofs.Common.{◌≡◌, ℕ, ℤ, ◌<◌, ◌≢◌, length, get_or, pos, ◌+ℤ◌, neg_ℤ, ◌≤ℤ◌, ◌<ℤ◌, Some, None, sym, refl, ap, ◌∙◌, subst, arith, w32, to_z, of_z}
+use Rattle.std.proofs.Common.{◌≡◌, ℕ, ℤ, get_or, pos, ◌+ℤ◌, neg_ℤ, ◌≤ℤ◌, ◌<ℤ◌, Some, None, sym, refl, ap, ◌∙◌, subst, arith, w32, to_z, of_z}
 use Rattle.std.proofs.lemmas.Int.{ints}
 use Rattle.rules.specs.declared.edges.Kind.TheVariants.{Plain}
 use Rattle.rules.specs.Edges.{edge}
 use Rattle.rules.specs.Steps.{given, no_edge, known}
 use Rattle.network.specs.Model.{model}
 use Rattle.explain.specs.declared.work.Best.{Best}
-use Rattle.explain.specs.Columns.{at, best, head_of, way}
+use Rattle.explain.specs.Columns.{at, best, head_of}
 use Rattle.explain.specs.Working.{column_at, Back, Stands}
-use Rattle.explain.proofs.Columns.{point_column, head_in}
-use Rattle.explain.proofs.Holding.{point_room, column_room, given_few, horizon_in, given_stands}
-use Rattle.explain.proofs.Ending.{ended_after}
+use Rattle.explain.proofs.Holding.{point_room, given_few, horizon_in, given_stands}
 use Rattle.explain.proofs.Loading.{found_edge, edge_there, some_none}
 use Rattle.explain.proofs.Testing.{it, head_below, near_back, this_stands, back_given, back_detour, tested, written_none}
 use Rattle.explain.proofs.given_loops.test_edge.Goals as goal

@@ -1,7 +1,6 @@
-use Rattle.std.proofs.Common.{◌≡◌, ◌≢◌, ◌≤ℤ◌, ◌<ℤ◌, sym, refl, ap, ◌∙◌, subst, arith}
+use Rattle.std.proofs.Common.{refl, arith}
 use Rattle.std.proofs.lemmas.Int.{ints}
 use Rattle.network.specs.Model.{model}
-use Rattle.explain.specs.Columns.{at, best, head_of}
 use Rattle.explain.proofs.Columns.{point_column}
 use Rattle.explain.proofs.Holding.{late}
 use Rattle.explain.proofs.Chaining.{not_first, first_present, told_on}

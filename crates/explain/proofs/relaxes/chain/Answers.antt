@@ -1,7 +1,6 @@
-use Rattle.std.proofs.Common.{◌≡◌, ◌≢◌, pos, ◌+ℤ◌, neg_ℤ, ◌≤ℤ◌, ◌<ℤ◌, sym, refl, ap, ◌∙◌, subst, arith}
+use Rattle.std.proofs.Common.{ap, arith}
 use Rattle.std.proofs.lemmas.Int.{ints}
 use Rattle.network.specs.Model.{model}
-use Rattle.explain.specs.Columns.{at, best}
 use Rattle.explain.proofs.Columns.{point_column}
 use Rattle.explain.proofs.Holding.{near_at, horizon_in}
 use Rattle.explain.proofs.Chaining.{told_as}

@@ -1,8 +1,8 @@
-use Rattle.std.proofs.Common.{◌≡◌, ◌<◌, ◌≢◌, pos, negsuc, ◌+ℤ◌, neg_ℤ, ◌≤ℤ◌, ◌<ℤ◌, sym, refl, ap, ◌∙◌, subst, arith}
+use Rattle.std.proofs.Common.{◌≡◌, ◌≢◌, pos, ◌+ℤ◌, neg_ℤ, ◌≤ℤ◌, sym, refl, ap, ◌∙◌, subst, arith}
 use Rattle.std.proofs.lemmas.Int.{ints}
 use Rattle.rules.specs.Steps.{known, LawfulStep}
 use Rattle.network.specs.Model.{model}
-use Rattle.explain.specs.Columns.{at, best, head_of, way}
+use Rattle.explain.specs.Columns.{at, head_of, way}
 use Rattle.explain.specs.Working.{Taken}
 use Rattle.explain.proofs.Columns.{point_column}
 use Rattle.explain.proofs.Holding.{point_room, column_room, near_at}

@@ -1,7 +1,7 @@
 use Rattle.std.proofs.Common.{◌<◌}
 use Rattle.network.specs.Model.{model}
 use Rattle.explain.specs.Columns.{columns}
-use Rattle.explain.specs.Working.{Went, Below, RuleN, RuleL, RuleR}
+use Rattle.explain.specs.Working.{Went, Below, RuleN}
 use Rattle.explain.proofs.rounds.chain_all.Given as goal
 
 abbrev pub invariant-loop-q : goal.invariant-loop-q

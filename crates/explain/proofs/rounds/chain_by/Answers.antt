@@ -1,7 +1,6 @@
-use Rattle.std.proofs.Common.{◌<◌}
 use Rattle.network.specs.Model.{model}
 use Rattle.explain.specs.Columns.{columns}
-use Rattle.explain.specs.Working.{Below, RuleN, RuleL, RuleR}
+use Rattle.explain.specs.Working.{Below, RuleN}
 use Rattle.explain.proofs.Chaining.{went_more}
 use Rattle.explain.proofs.rounds.chain_by.Goals as goal
 

@@ -1,7 +1,5 @@
-use Rattle.std.proofs.Common.{◌<◌}
 use Rattle.network.specs.Model.{model}
-use Rattle.explain.specs.Columns.{columns}
-use Rattle.explain.specs.Working.{Went, Below, RuleN, RuleL, RuleR}
+use Rattle.explain.specs.Working.{Went, Below, RuleL}
 use Rattle.explain.proofs.rounds.lower_all.Given as goal
 
 abbrev pub invariant-loop-x : goal.invariant-loop-x

@@ -1,4 +1,4 @@
-use Rattle.std.proofs.Common.{◌≡◌, sym, subst}
+use Rattle.std.proofs.Common.{sym, subst}
 use Rattle.network.specs.Model.{model}
 use Rattle.explain.specs.Working.{Rounded}
 use Rattle.explain.proofs.Closed.{good}

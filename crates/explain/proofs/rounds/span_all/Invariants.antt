@@ -1,7 +1,6 @@
-use Rattle.std.proofs.Common.{◌<◌}
 use Rattle.network.specs.Model.{model}
 use Rattle.explain.specs.Columns.{columns}
-use Rattle.explain.specs.Working.{Went, Below, RuleN, RuleL, RuleR}
+use Rattle.explain.specs.Working.{Went, Below, RuleL, RuleR}
 use Rattle.explain.proofs.rounds.span_all.Given as goal
 
 abbrev pub invariant-loop-s : goal.invariant-loop-s

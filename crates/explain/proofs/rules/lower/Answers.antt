@@ -1,10 +1,10 @@
-use Rattle.std.proofs.Common.{◌≡◌, ◌<◌, ◌≢◌, pos, ◌+ℤ◌, neg_ℤ, ◌≤ℤ◌, ◌<ℤ◌, sym, refl, ap, ◌∙◌, subst, arith}
+use Rattle.std.proofs.Common.{◌≡◌, ◌<◌, ◌≢◌, pos, ◌+ℤ◌, ◌<ℤ◌, sym, refl, ap, ◌∙◌, subst, arith}
 use Rattle.std.proofs.lemmas.Int.{ints}
-use Rattle.rules.specs.Card.{start_of, finish_of, least_of}
+use Rattle.rules.specs.Card.{finish_of}
 use Rattle.rules.specs.Steps.{known, LawfulStep}
 use Rattle.network.specs.Model.{model}
 use Rattle.network.proofs.Made.{well_made}
-use Rattle.explain.specs.Columns.{at, best, head_of, wait_of, way}
+use Rattle.explain.specs.Columns.{at, best, wait_of, way}
 use Rattle.explain.specs.Working.{Present}
 use Rattle.explain.proofs.Holding.{near_at}
 use Rattle.explain.proofs.Chaining.{told_as}

@@ -1,9 +1,8 @@
-use Rattle.std.proofs.Common.{◌≡◌, ◌+◌, ◌-◌, ◌*◌, ◌<◌, length, get_or, pos, sym, ap, ◌∙◌, subst, arith}
+use Rattle.std.proofs.Common.{◌≡◌, ◌+◌, ◌-◌, ◌*◌, get_or, ap, ◌∙◌, arith}
 use Rattle.std.proofs.lemmas.Int.{ints}
 use Rattle.rules.specs.Steps.{given}
 use Rattle.network.specs.Model.{model}
 use Rattle.network.proofs.Made.{span_in, well_made, most_in}
-use Rattle.network.proofs.Parts.{span_count_is}
 use Rattle.steps.proofs.Numbers.{given_long, span_edge_at}
 use Rattle.explain.proofs.tables.lower_edge.Goals as goal
 

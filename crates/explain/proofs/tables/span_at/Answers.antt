@@ -1,5 +1,5 @@
 use Rattle.std.proofs.Common.{sym, arith}
-use Rattle.network.proofs.Parts.{span_count_is, start_is, finish_is, least_is}
+use Rattle.network.proofs.Parts.{start_is, finish_is, least_is}
 use Rattle.network.proofs.Made.{span_in}
 use Rattle.explain.proofs.tables.span_at.Goals as goal
 

@@ -1,5 +1,4 @@
-use Rattle.std.proofs.Common.{◌≡◌, ◌+ℤ◌, sym, refl, ap, ◌∙◌, subst, arith}
-use Rattle.rules.specs.declared.edges.Step.{Step}
+use Rattle.std.proofs.Common.{◌≡◌, ◌+ℤ◌, refl, ◌∙◌, arith}
 use Rattle.rules.specs.Steps.{known}
 use Rattle.network.specs.Model.{model}
 use Rattle.network.proofs.Made.{well_made}

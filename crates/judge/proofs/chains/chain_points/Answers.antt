@@ -1,12 +1,10 @@
-use Rattle.std.proofs.Common.{◌≡◌, ℕ, ◌<◌, ◌≢◌, Some, sym, refl, ap, ◌∙◌, subst, ⊎_elim, arith}
-use Rattle.std.proofs.lemmas.Bool.{cases_eq}
+use Rattle.std.proofs.Common.{arith}
 use Rattle.network.specs.Model.{model}
 use Rattle.walks.specs.Minutes.{of_minutes, absent_minutes}
-use Rattle.walks.specs.Tables.{at, cell}
-use Rattle.judge.specs.declared.target.Target.TheVariants.{Point, Start}
+use Rattle.walks.specs.Tables.{cell}
+use Rattle.judge.specs.declared.target.Target.TheVariants.{Point}
 use Rattle.judge.specs.Closures.{distance}
-use Rattle.judge.specs.Closing.{Went, Below, Within, Offered}
-use Rattle.judge.proofs.Holding.{went_first, went_more, went_as, told_as, offered_falls, point_room}
+use Rattle.judge.proofs.Holding.{told_as}
 use Rattle.judge.proofs.Deriving.{low_at, high_at}
 use Rattle.judge.proofs.Chaining.{far_small, offered_point, chained_point}
 use Rattle.judge.proofs.chains.chain_points.Goals as goal

@@ -1,12 +1,9 @@
-use Rattle.std.proofs.Common.{◌≡◌, ℕ, ◌<◌, ◌≤◌, ◌≢◌, length, set, Some, None, sym, refl, ap, ◌∙◌, subst, ap₂, arith, get_or-set_other, get_or-set_same, below_more}
+use Rattle.std.proofs.Common.{arith}
 use Rattle.network.specs.Model.{model}
-use Rattle.walks.specs.declared.plain_wait.PlainWait.{PlainWait}
-use Rattle.walks.specs.Minutes.{Whole, of_minutes, absent_minutes}
-use Rattle.walks.specs.Pairs.{Pair, of_pair, absent_pair}
+use Rattle.walks.specs.Pairs.{of_pair, absent_pair}
 use Rattle.walks.specs.Tables.{at, cell}
 use Rattle.judge.specs.declared.target.Target.TheVariants.{Point, Start}
 use Rattle.judge.specs.Closures.{distance, wait}
-use Rattle.judge.specs.Closing.{Went, Below, Within, Offered, Chained}
 use Rattle.judge.proofs.Holding.{told_as}
 use Rattle.judge.proofs.Deriving.{low_at, high_at}
 use Rattle.judge.proofs.Chaining.{plain_small, wait_small, offered_start, chained_start}

@@ -1,11 +1,6 @@
-use Rattle.std.proofs.Common.{◌≡◌, ℕ, ◌<◌, ◌≢◌, Some, None}
 use Rattle.network.specs.Model.{model}
-use Rattle.walks.specs.Minutes.{of_minutes, absent_minutes}
-use Rattle.walks.specs.Pairs.{of_pair, absent_pair}
-use Rattle.walks.specs.Tables.{at, cell}
-use Rattle.judge.specs.declared.target.Target.TheVariants.{Point, Start}
-use Rattle.judge.specs.Closures.{distance, wait}
-use Rattle.judge.specs.Closing.{Went, Below, Within, Chained}
+use Rattle.judge.specs.declared.target.Target.TheVariants.{Start}
+use Rattle.judge.specs.Closing.{Went, Below, Chained}
 use Rattle.judge.proofs.chains.chain_starts.Given as goal
 
 abbrev pub invariant-loop-s : goal.invariant-loop-s

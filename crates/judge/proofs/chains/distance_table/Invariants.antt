@@ -1,10 +1,7 @@
-use Rattle.std.proofs.Common.{◌≡◌, ℕ, ◌<◌, ◌≢◌, Some}
-use Rattle.network.specs.Model.{model}
+use Rattle.std.proofs.Common.{◌≡◌, ℕ, ◌<◌, Some}
 use Rattle.walks.specs.Minutes.{of_minutes, absent_minutes}
-use Rattle.walks.specs.Tables.{at, cell}
-use Rattle.judge.specs.declared.target.Target.TheVariants.{Point, Start}
+use Rattle.walks.specs.Tables.{cell}
 use Rattle.judge.specs.Closures.{distance}
-use Rattle.judge.specs.Closing.{Went, Below, Within}
 use Rattle.judge.proofs.chains.distance_table.Given as goal
 
 abbrev pub invariant-loop-p : goal.invariant-loop-p

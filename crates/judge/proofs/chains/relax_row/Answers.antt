@@ -1,10 +1,10 @@
-use Rattle.std.proofs.Common.{◌≡◌, ℕ, ◌<◌, ◌≢◌, sym, refl, ap, ◌∙◌, subst, arith}
+use Rattle.std.proofs.Common.{sym, ap, ◌∙◌, subst, arith}
 use Rattle.network.specs.Model.{model}
 use Rattle.walks.specs.Minutes.{of_minutes, absent_minutes}
-use Rattle.walks.specs.Tables.{at, cell}
-use Rattle.judge.specs.declared.target.Target.TheVariants.{Point, Start}
-use Rattle.judge.specs.Closing.{Went, Below, Within, Offered}
-use Rattle.judge.proofs.Holding.{went_first, went_more, went_as, offered_falls, point_room}
+use Rattle.walks.specs.Tables.{at}
+use Rattle.judge.specs.declared.target.Target.TheVariants.{Point}
+use Rattle.judge.specs.Closing.{Within, Offered}
+use Rattle.judge.proofs.Holding.{went_first, went_more, went_as, offered_falls}
 use Rattle.judge.proofs.chains.relax_row.Goals as goal
 
 pub loop-q-init : goal.loop-q-init

@@ -1,9 +1,7 @@
-use Rattle.std.proofs.Common.{◌≡◌, ℕ, ◌<◌, ◌≢◌, Some}
 use Rattle.network.specs.Model.{model}
 use Rattle.walks.specs.Minutes.{of_minutes, absent_minutes}
-use Rattle.walks.specs.Tables.{at, cell}
-use Rattle.judge.specs.declared.target.Target.TheVariants.{Point, Start}
-use Rattle.judge.specs.Closures.{distance}
+use Rattle.walks.specs.Tables.{at}
+use Rattle.judge.specs.declared.target.Target.TheVariants.{Point}
 use Rattle.judge.specs.Closing.{Went, Below, Within}
 use Rattle.judge.proofs.chains.relax_row.Given as goal
 

@@ -1,12 +1,9 @@
-use Rattle.std.proofs.Common.{◌≡◌, ℕ, ◌<◌, ◌≢◌, Some, sym, refl, ap, ◌∙◌, subst, ⊎_elim, arith}
-use Rattle.std.proofs.lemmas.Bool.{cases_eq}
-use Rattle.network.specs.Model.{model}
+use Rattle.std.proofs.Common.{arith}
 use Rattle.walks.specs.Minutes.{of_minutes, absent_minutes}
-use Rattle.walks.specs.Tables.{at, cell}
-use Rattle.judge.specs.declared.target.Target.TheVariants.{Point, Start}
-use Rattle.judge.specs.Closures.{distance}
-use Rattle.judge.specs.Closing.{Went, Below, Within, Offered}
-use Rattle.judge.proofs.Holding.{went_first, went_more, went_as, told_as, offered_falls, point_room}
+use Rattle.walks.specs.Tables.{cell}
+use Rattle.judge.specs.declared.target.Target.TheVariants.{Point}
+use Rattle.judge.specs.Closing.{Below, Within}
+use Rattle.judge.proofs.Holding.{went_first, went_more, offered_falls}
 use Rattle.judge.proofs.chains.relax_table.Goals as goal
 
 pub loop-p-init : goal.loop-p-init

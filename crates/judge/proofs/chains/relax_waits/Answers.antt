@@ -1,13 +1,10 @@
-use Rattle.std.proofs.Common.{◌≡◌, ℕ, ◌<◌, ◌≢◌, Some, None, sym, refl, ap, ◌∙◌, subst, ⊎_elim, arith}
-use Rattle.std.proofs.lemmas.Bool.{cases_eq}
+use Rattle.std.proofs.Common.{sym, ap, ◌∙◌, subst, arith}
 use Rattle.network.specs.Model.{model}
-use Rattle.walks.specs.Minutes.{of_minutes, absent_minutes}
 use Rattle.walks.specs.Pairs.{of_pair, absent_pair}
-use Rattle.walks.specs.Tables.{at, cell}
-use Rattle.judge.specs.declared.target.Target.TheVariants.{Point, Start}
-use Rattle.judge.specs.Closures.{distance}
-use Rattle.judge.specs.Closing.{Went, Below, Within, Offered, Chained}
-use Rattle.judge.proofs.Holding.{went_first, went_more, went_as, told_as, offered_falls, point_room}
+use Rattle.walks.specs.Tables.{at}
+use Rattle.judge.specs.declared.target.Target.TheVariants.{Start}
+use Rattle.judge.specs.Closing.{Within, Offered}
+use Rattle.judge.proofs.Holding.{went_first, went_more, went_as, offered_falls}
 use Rattle.judge.proofs.chains.relax_waits.Goals as goal
 
 pub loop-p-init : goal.loop-p-init

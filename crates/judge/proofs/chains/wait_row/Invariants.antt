@@ -1,11 +1,7 @@
-use Rattle.std.proofs.Common.{◌≡◌, ℕ, ◌<◌, ◌≢◌, Some, None}
-use Rattle.network.specs.Model.{model}
-use Rattle.walks.specs.Minutes.{of_minutes, absent_minutes}
+use Rattle.std.proofs.Common.{◌≡◌, ℕ, ◌<◌, Some, None}
 use Rattle.walks.specs.Pairs.{of_pair, absent_pair}
-use Rattle.walks.specs.Tables.{at, cell}
-use Rattle.judge.specs.declared.target.Target.TheVariants.{Point, Start}
-use Rattle.judge.specs.Closures.{distance, wait}
-use Rattle.judge.specs.Closing.{Went, Below, Within, Chained}
+use Rattle.walks.specs.Tables.{at}
+use Rattle.judge.specs.Closures.{wait}
 use Rattle.judge.proofs.chains.wait_row.Given as goal
 
 abbrev pub invariant-loop-p : goal.invariant-loop-p

@@ -1,6 +1,3 @@
-use Rattle.std.proofs.Common.{arith}
-use Rattle.std.proofs.lemmas.Int.{ints}
-use Rattle.judge.proofs.Deriving.{low_at, high_at}
 use Rattle.judge.proofs.Holding.{point_room, target_room}
 use Rattle.judge.proofs.chains.weight_of.Goals as goal
 

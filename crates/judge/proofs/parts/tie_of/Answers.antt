@@ -1,5 +1,4 @@
-use Rattle.std.proofs.Common.{◌≡◌, sym, ◌∙◌, arith}
-use Rattle.std.proofs.lemmas.Int.{ints}
+use Rattle.std.proofs.Common.{sym, arith}
 use Rattle.network.proofs.Parts.{from_is, to_is, gap_is}
 use Rattle.network.proofs.Made.{tie_in}
 use Rattle.judge.proofs.parts.tie_of.Goals as goal

@@ -1,5 +1,4 @@
 use Rattle.network.specs.Model.{model}
-use Rattle.judge.specs.declared.target.Target.TheVariants.{Point, Start}
 use Rattle.judge.specs.Closing.{Went, Below, SpanRules}
 use Rattle.judge.proofs.reductions.all_spans.Given as goal
 

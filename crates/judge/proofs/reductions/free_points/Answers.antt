@@ -1,5 +1,4 @@
 use Rattle.network.specs.Model.{model}
-use Rattle.judge.specs.declared.target.Target.TheVariants.{Point, Start}
 use Rattle.judge.specs.Closing.{Freed}
 use Rattle.judge.proofs.Holding.{went_first, went_more}
 use Rattle.judge.proofs.reductions.free_points.Goals as goal

@@ -1,11 +1,11 @@
-use Rattle.std.proofs.Common.{◌≡◌, ℤ, pos, ◌+ℤ◌, neg_ℤ, ◌≤ℤ◌, ◌<ℤ◌, refl, ap, ◌∙◌, ap₂, arith}
+use Rattle.std.proofs.Common.{pos, neg_ℤ, ◌≤ℤ◌, refl, ap, ap₂, arith}
 use Rattle.std.proofs.lemmas.Int.{ints}
 use Rattle.rules.specs.Card.{start_of, finish_of, least_of, most_of}
 use Rattle.network.specs.Model.{model}
 use Rattle.network.proofs.Made.{well_made, most_in}
 use Rattle.judge.specs.declared.closure.Closure.{Closure}
-use Rattle.judge.specs.declared.target.Target.TheVariants.{Point, Start}
-use Rattle.judge.specs.Closures.{distance, wait, entry}
+use Rattle.judge.specs.declared.target.Target.TheVariants.{Point}
+use Rattle.judge.specs.Closures.{distance, wait}
 use Rattle.judge.proofs.Deriving.{proposed_as, offer_most, offer_least, offer_wait, least_in}
 use Rattle.judge.proofs.Holding.{went_as, went_both}
 use Rattle.judge.proofs.reductions.hold_span.Goals as goal

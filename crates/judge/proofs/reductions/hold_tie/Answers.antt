@@ -1,6 +1,5 @@
-use Rattle.std.proofs.Common.{◌≡◌, ap, ap₂, arith}
+use Rattle.std.proofs.Common.{ap, arith}
 use Rattle.std.proofs.lemmas.Int.{ints}
-use Rattle.network.specs.Model.{model}
 use Rattle.network.proofs.Made.{well_made}
 use Rattle.judge.specs.declared.target.Target.TheVariants.{Point}
 use Rattle.judge.proofs.Deriving.{proposed_as, offer_tie}

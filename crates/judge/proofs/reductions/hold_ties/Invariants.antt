@@ -1,5 +1,4 @@
 use Rattle.network.specs.Model.{model}
-use Rattle.judge.specs.declared.target.Target.TheVariants.{Point, Start}
 use Rattle.judge.specs.Closing.{Went, Below, Tied}
 use Rattle.judge.proofs.reductions.hold_ties.Given as goal
 

@@ -1,12 +1,10 @@
-use Rattle.std.proofs.Common.{◌≡◌, ℤ, pos, ◌+ℤ◌, neg_ℤ, ◌≤ℤ◌, ◌<ℤ◌, refl, ap, ◌∙◌, ap₂, arith}
+use Rattle.std.proofs.Common.{◌≡◌, refl, ap, ◌∙◌, arith}
 use Rattle.std.proofs.lemmas.Int.{ints}
-use Rattle.rules.specs.Card.{start_of, finish_of, least_of, most_of}
+use Rattle.rules.specs.Card.{finish_of}
 use Rattle.network.specs.Model.{model}
-use Rattle.network.proofs.Made.{well_made, most_in}
-use Rattle.judge.specs.declared.closure.Closure.{Closure}
-use Rattle.judge.specs.declared.target.Target.TheVariants.{Point, Start}
-use Rattle.judge.specs.Closures.{distance, wait, entry}
-use Rattle.judge.proofs.Deriving.{proposed_as, offer_lowered, least_in, low_at, high_at}
+use Rattle.network.proofs.Made.{well_made}
+use Rattle.judge.specs.Closures.{entry}
+use Rattle.judge.proofs.Deriving.{proposed_as, offer_lowered, least_in, low_at}
 use Rattle.judge.proofs.Holding.{told_as, point_room, target_room}
 use Rattle.judge.proofs.reductions.lower.Goals as goal
 

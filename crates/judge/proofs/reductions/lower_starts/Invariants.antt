@@ -1,5 +1,5 @@
 use Rattle.network.specs.Model.{model}
-use Rattle.judge.specs.declared.target.Target.TheVariants.{Point, Start}
+use Rattle.judge.specs.declared.target.Target.TheVariants.{Start}
 use Rattle.judge.specs.Closing.{Went, Below, Lowered}
 use Rattle.judge.proofs.reductions.lower_starts.Given as goal
 

@@ -1,4 +1,3 @@
-use Rattle.std.proofs.Common.{◌<◌, arith}
 use Rattle.std.proofs.lemmas.Bool.{both_ways}
 use Rattle.network.specs.Model.{model}
 use Rattle.network.proofs.Made.{well_made}

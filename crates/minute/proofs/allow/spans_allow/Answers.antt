@@ -1,7 +1,5 @@
-use Rattle.std.proofs.Common.{◌≡◌, ◌<◌, sym, ap, ◌∙◌, arith, below_more}
+use Rattle.std.proofs.Common.{sym, ap, ◌∙◌, arith, below_more}
 use Rattle.std.proofs.lemmas.Int.{ints}
-use Rattle.rules.specs.Card.{span_count}
-use Rattle.network.specs.Model.{model}
 use Rattle.minute.specs.Minutes.{at, marked}
 use Rattle.minute.specs.Deciding.{soonest}
 use Rattle.rules.proofs.Basics.{clash}

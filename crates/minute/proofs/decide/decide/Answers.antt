@@ -1,4 +1,4 @@
-use Rattle.std.proofs.Common.{◌≡◌, ◌-◌, sym, refl, subst, inl, inr}
+use Rattle.std.proofs.Common.{◌-◌, sym, refl, subst, inl, inr}
 use Rattle.std.proofs.lemmas.Bool.{both_ways}
 use Rattle.rules.specs.Game.{CanGive}
 use Rattle.network.specs.Model.{model}

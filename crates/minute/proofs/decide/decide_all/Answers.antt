@@ -1,8 +1,8 @@
-use Rattle.std.proofs.Common.{◌≡◌, sym, ◌∙◌, arith}
+use Rattle.std.proofs.Common.{sym, ◌∙◌, arith}
 use Rattle.rules.proofs.Flags.{so, so_back}
 use Rattle.std.proofs.lemmas.Bool.{both_ways}
 use Rattle.minute.specs.Minutes.{at, marked}
-use Rattle.minute.proofs.Deciding.{Deciding, start, skip_late, skip_given, opens, step, over, ordered}
+use Rattle.minute.proofs.Deciding.{start, skip_late, skip_given, opens, step, over, ordered}
 use Rattle.minute.proofs.decide.decide_all.Goals as goal
 
 pub loop-q-init : goal.loop-q-init

@@ -1,6 +1,5 @@
-use Rattle.std.proofs.Common.{◌≡◌, cond, not, ◌&&◌, sym, ap, ◌∙◌, ap₂}
+use Rattle.std.proofs.Common.{cond, not, ◌&&◌, sym, ap, ◌∙◌, ap₂}
 use Rattle.rules.specs.Card.{is_finish}
-use Rattle.minute.specs.Minutes.{at}
 use Rattle.network.specs.Model.{model}
 use Rattle.minute.specs.Events.{picks}
 use Rattle.minute.proofs.events.is_picked.Goals as goal

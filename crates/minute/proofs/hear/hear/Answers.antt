@@ -1,5 +1,4 @@
-use Rattle.std.proofs.Common.{◌≡◌, ◌<◌, None, sym, ap, ◌∙◌, subst, arith}
-use Rattle.rules.specs.Card.{finish_of}
+use Rattle.std.proofs.Common.{sym, ap, ◌∙◌, arith}
 use Rattle.rules.specs.Game.{after, only}
 use Rattle.network.specs.Model.{model}
 use Rattle.network.proofs.Made.{well_made}

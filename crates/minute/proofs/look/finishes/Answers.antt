@@ -1,9 +1,7 @@
-use Rattle.std.proofs.Common.{◌≡◌, true, sym, refl, ap, ◌∙◌, arith}
+use Rattle.std.proofs.Common.{true, sym, refl, ap, ◌∙◌, arith}
 use mathlib.Core.Path.{fun_ext}
-use Rattle.rules.specs.Card.{finish_of}
 use Rattle.rules.specs.Game.{also}
 use Rattle.network.specs.Model.{model}
-use Rattle.minute.specs.Minutes.{marked}
 use Rattle.minute.proofs.Arrays.{unmarked}
 use Rattle.minute.proofs.Hearing.{none_found, added, found_finishes}
 use Rattle.minute.proofs.Plain.{finish_in}

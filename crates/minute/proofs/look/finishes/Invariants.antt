@@ -1,4 +1,4 @@
-use Rattle.std.proofs.Common.{◌≡◌, ℕ, true}
+use Rattle.std.proofs.Common.{◌≡◌, true}
 use Rattle.network.specs.Model.{model}
 use Rattle.minute.specs.Minutes.{marked}
 use Rattle.minute.proofs.Hearing.{found}

@@ -1,5 +1,5 @@
 use Rattle.std.proofs.Common.{sym, arith}
-use Rattle.network.proofs.Parts.{span_count_is, start_is, finish_is, least_is, most_is}
+use Rattle.network.proofs.Parts.{start_is, finish_is, least_is, most_is}
 use Rattle.minute.proofs.Plain.{span_known}
 use Rattle.minute.proofs.look.span_of.Goals as goal
 

@@ -1,6 +1,5 @@
 use Rattle.std.proofs.Common.{sym, refl, ap, ◌∙◌, arith, below_more}
 use Rattle.std.proofs.lemmas.Bool.{false≢true, both_ways}
-use Rattle.network.specs.Model.{model}
 use Rattle.minute.specs.Minutes.{at}
 use Rattle.minute.proofs.Plain.{start_in, finish_in}
 use Rattle.minute.proofs.Meeting.{tells_from}

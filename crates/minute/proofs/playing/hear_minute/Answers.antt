@@ -1,4 +1,4 @@
-use Rattle.std.proofs.Common.{◌≡◌, sym, refl, ◌∙◌, subst, arith}
+use Rattle.std.proofs.Common.{refl, ◌∙◌, arith}
 use Rattle.minute.specs.Minutes.{at}
 use Rattle.minute.proofs.Middle.{opened}
 use Rattle.minute.proofs.playing.hear_minute.Goals as goal

@@ -1,9 +1,9 @@
-use Rattle.std.proofs.Common.{◌≡◌, length, refl, arith}
+use Rattle.std.proofs.Common.{length, refl}
 use Rattle.network.specs.Model.{model}
 use Rattle.network.proofs.Made.{well_made}
 use Rattle.minute.specs.Minutes.{at}
 use Rattle.minute.specs.Played.{meaning}
-use Rattle.minute.proofs.Middle.{Midway, midway, mid_fits}
+use Rattle.minute.proofs.Middle.{midway, mid_fits}
 use Rattle.minute.proofs.After.{cold_then, stands_again, agrees_again, wins_then, done_then}
 use Rattle.minute.proofs.playing.play_minute.Goals as goal
 

@@ -1,9 +1,7 @@
 use Rattle.std.proofs.Common.{◌≡◌, true, sym, refl, ap, ◌∙◌, subst, arith}
-use Rattle.rules.specs.Card.{span_count}
 use Rattle.network.specs.Model.{model}
 use Rattle.kitchen.specs.Kitchens.{Started}
 use Rattle.minute.specs.Minutes.{at, is_at}
-use Rattle.minute.specs.Meets.{track_at}
 use Rattle.minute.specs.Played.{meaning, starting, Starts}
 use Rattle.minute.proofs.Plain.{start_in}
 use Rattle.minute.proofs.Starting.{accepted, starts_long, starts_beyond, skips, starts_one}

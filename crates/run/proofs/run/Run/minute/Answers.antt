@@ -1,4 +1,4 @@
-use Rattle.std.proofs.Common.{◌≡◌, ◌+◌, length, sym, refl, subst, rules}
+use Rattle.std.proofs.Common.{◌+◌, length, sym, subst}
 use Rattle.network.specs.declared.network.Network.{Network}
 use Rattle.network.specs.Model.{model}
 use Rattle.minute.specs.Minutes.{at}
