@@ -1,6 +1,6 @@
 //! The command `explain`.
+use crate::reading::ANY_EDGE;
 use crate::refusals::refuse;
-use crate::steps::ANY_EDGE;
 use card::closed::ClosedCard;
 use rules::edges::Step;
 use steps::prints::Printed;

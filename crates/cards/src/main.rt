@@ -6,11 +6,11 @@ mod explaining;
 mod judging;
 mod kitchens;
 mod numbers;
+mod reading;
 mod refusals;
 mod running;
 mod session;
 mod show;
-mod steps;
 mod tables;
 
 use card::open::OpenCard;

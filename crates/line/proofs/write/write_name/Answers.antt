@@ -6,11 +6,11 @@ use Rattle.std.proofs.lemmas.Bool.{eqb-true, eqb-false}
 use Rattle.line.proofs.Texts.{shown_empty, shown_front}
 use Rattle.line.proofs.write.write_name.Goals as goal
 
-pub returns-then-is-empty : goal.returns-then-is-empty
-returns-then-is-empty c =
+pub returns-then-is_empty : goal.returns-then-is_empty
+returns-then-is_empty c =
     let b = c.args.buffer.now in
     let f = c.args.from in
-    let e = shown_empty c.args.name.now (eqb-true _ 0 (sym c.if-is-empty.ensures)) in
+    let e = shown_empty c.args.name.now (eqb-true _ 0 (sym c.if-is_empty.ensures)) in
     record {
       end = omega (arith, ap length e);
       bytes = set_split b f 45 (omega (arith, c.requires)) ∙ ap (λ k. take f b ++ (45 ∷ drop k b)) (sym (add-one f)) ∙ ap (λ s. take f b ++ (s ++ drop (f + 1) b)) (sym e);
@@ -28,7 +28,7 @@ returns c =
     let f = c.args.from in
     let name = c.args.name.now in
     let n = c.min-count.result in
-    let some : 0 < length name = omega (arith, eqb-false (length name) 0 (sym c.if-is-empty.ensures)) in
+    let some : 0 < length name = omega (arith, eqb-false (length name) 0 (sym c.if-is_empty.ensures)) in
     let e = shown_front name n some c.min-count.ensures in
     let last : c.loop-i.i ≡ n = omega arith in
     record {
