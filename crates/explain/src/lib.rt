@@ -4,9 +4,9 @@
 pub mod explaining;
 pub mod given;
 pub mod given_loops;
+pub mod reductions;
 pub mod relaxes;
 pub mod rounds;
-pub mod rules;
 pub mod tables;
 pub mod work;
 pub mod writes;

@@ -5,8 +5,8 @@ ghost use Rattle.network.specs.Model.{model};
 ghost use Rattle.explain.specs.Columns.{columns};
 ghost use Rattle.explain.specs.Working.{Holds, Told, Below, RuleN, RuleL, RuleR, Rounded, Saturated};
 
+use crate::reductions::{lower, release};
 use crate::relaxes::chain;
-use crate::rules::{lower, release};
 use crate::tables::width;
 use crate::work::{Stop, Work};
 use network::network::Network;

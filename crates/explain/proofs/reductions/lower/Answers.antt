@@ -9,7 +9,7 @@ use Rattle.explain.specs.Working.{Present}
 use Rattle.explain.proofs.Holding.{near_at}
 use Rattle.explain.proofs.Chaining.{told_as}
 use Rattle.explain.proofs.Spanning.{lower_step, lower_lawful, least_small}
-use Rattle.explain.proofs.rules.lower.Goals as goal
+use Rattle.explain.proofs.reductions.lower.Goals as goal
 
 pub edge-requires : goal.edge-requires
 edge-requires c = let n = c.args.network.now in (omega (arith, c.span_at-span.ensures.finish, (well_made n).finish_in c.args.s c.requires.place.0), c.requires.place.1)

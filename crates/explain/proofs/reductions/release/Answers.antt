@@ -10,7 +10,7 @@ use Rattle.explain.proofs.Columns.{wait_column, point_column}
 use Rattle.explain.proofs.Holding.{near_at}
 use Rattle.explain.proofs.Chaining.{told_as}
 use Rattle.explain.proofs.Spanning.{release_step, release_lawful, least_small}
-use Rattle.explain.proofs.rules.release.Goals as goal
+use Rattle.explain.proofs.reductions.release.Goals as goal
 
 pub edge-requires : goal.edge-requires
 edge-requires c = let n = c.args.network.now in (c.requires.place.1, omega (arith, c.wait_column.ensures, wait_column (model n.content) c.args.s c.requires.place.0))
