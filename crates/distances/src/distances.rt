@@ -1,5 +1,5 @@
 //! The distances between the points of a card.
-ghost use Rattle.std.specs.Prelude.{◌≡◌, ℕ, ◌<◌, ◌&&◌, ltb, if◌then◌else◌, None, nat_lt};
+ghost use Rattle.std.specs.Prelude.{◌≡◌, ℕ, ◌<◌, ◌&&◌, if◌then◌else◌, None, nat_lt};
 ghost use Rattle.network.specs.Model.{model};
 ghost use Rattle.walks.specs.Minutes.{of_minutes, absent_minutes, sum, lesser};
 ghost use Rattle.walks.specs.Tables.{cell};
@@ -42,7 +42,7 @@ impl Distances {
 
     /// The weight from a point to another, where there is a walk.
     pub fn get(&self, from: u8, to: u8) -> Option<i32>
-        ensures { result ≡ (if ltb from 32 && nat_lt to 32 then cell of_minutes absent_minutes self.now.table from to else None) }
+        ensures { result ≡ (if nat_lt from 32 && nat_lt to 32 then cell of_minutes absent_minutes self.now.table from to else None) }
     {
         if from >= 32 || to >= 32 {
             return None;

@@ -1,7 +1,7 @@
 //! The orders of a minute.
 ghost use Rattle.std.specs.Prelude.{suc, ◌≤◌};
 ghost use Rattle.rules.specs.Game.{no_point};
-ghost use Rattle.rules.specs.Tables.{Fits, late as put-off};
+ghost use Rattle.rules.specs.Tables.{Fits, late as put_off};
 ghost use Rattle.network.specs.Model.{model};
 ghost use Rattle.judge.specs.Closures.{distance, wait};
 ghost use Rattle.minute.specs.Minutes.{at, marked};
@@ -44,7 +44,7 @@ pub(crate) fn decide_all(
 )
     requires tight { Tight (model network.now.content) closure.now }
     requires time { t ≤ (model network.now.content).horizon }
-    requires fits { Fits (model network.now.content) (distance closure.now) (wait closure.now) t (put-off (model network.now.content) no_point) (at minutes.old) }
+    requires fits { Fits (model network.now.content) (distance closure.now) (wait closure.now) t (put_off (model network.now.content) no_point) (at minutes.old) }
     ensures fits { Fits (model network.now.content) (distance closure.now) (wait closure.now) (suc t) no_point (at minutes.new) }
     ensures rule { Ordered (model network.now.content) t (at minutes.old) (at minutes.new) }
 {

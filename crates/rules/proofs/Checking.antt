@@ -66,14 +66,14 @@ module _ (c : Card) where
   abbrev finish_apart? : ℕ → ℕ → Bool
   finish_apart? s r = implies (eqb (finish_of c s) (finish_of c r)) (eqb s r)
 
-  abbrev finishes-apart? : ℕ → Bool
-  finishes-apart? s = every (span_count c) (finish_apart? s)
+  abbrev finishes_apart? : ℕ → Bool
+  finishes_apart? s = every (span_count c) (finish_apart? s)
 
-  abbrev from-in? : ℕ → Bool
-  from-in? i = ltb (from_of c i) c.points
+  abbrev from_in? : ℕ → Bool
+  from_in? i = ltb (from_of c i) c.points
 
-  abbrev to-in? : ℕ → Bool
-  to-in? i = ltb (to_of c i) c.points
+  abbrev to_in? : ℕ → Bool
+  to_in? i = ltb (to_of c i) c.points
 
   abbrev card_tests : List Bool
   card_tests =
@@ -83,9 +83,9 @@ module _ (c : Card) where
       ∷ every (span_count c) start_in?
       ∷ every (span_count c) finish_in?
       ∷ every (span_count c) finish_later?
-      ∷ every (span_count c) finishes-apart?
-      ∷ every (tie_count c) from-in?
-      ∷ every (tie_count c) to-in?
+      ∷ every (span_count c) finishes_apart?
+      ∷ every (tie_count c) from_in?
+      ∷ every (tie_count c) to_in?
       ∷ []
 
   unfoldable pub well_made? : Bool
@@ -100,9 +100,9 @@ module _ (c : Card) where
     start_in = λ s lt. ltb→lt _ _ (at_each _ start_in? (nth card_tests h 3) s lt);
     finish_in = λ s lt. ltb→lt _ _ (at_each _ finish_in? (nth card_tests h 4) s lt);
     finish_later = λ s lt. ltb→lt _ _ (at_each _ finish_later? (nth card_tests h 5) s lt);
-    finish_apart = λ s r ls lr e. eqb→eq s r (implies_out (eqb (finish_of c s) (finish_of c r)) (eqb s r) (at_each _ (finish_apart? s) (at_each _ finishes-apart? (nth card_tests h 6) s ls) r lr) (eq_test e));
-    from_in = λ i lt. ltb→lt _ _ (at_each _ from-in? (nth card_tests h 7) i lt);
-    to_in = λ i lt. ltb→lt _ _ (at_each _ to-in? (nth card_tests h 8) i lt);
+    finish_apart = λ s r ls lr e. eqb→eq s r (implies_out (eqb (finish_of c s) (finish_of c r)) (eqb s r) (at_each _ (finish_apart? s) (at_each _ finishes_apart? (nth card_tests h 6) s ls) r lr) (eq_test e));
+    from_in = λ i lt. ltb→lt _ _ (at_each _ from_in? (nth card_tests h 7) i lt);
+    to_in = λ i lt. ltb→lt _ _ (at_each _ to_in? (nth card_tests h 8) i lt);
   }
 
 -- ---- tables are closed and sound at the start
@@ -226,17 +226,17 @@ module _ (c : Card) (D W : Table) where
 -- ---- a list passes
 
 module _ (card : Card) (steps : List Step) where
-  abbrev lawful-at? : ℕ → Bool
-  lawful-at? i = lawful? card (known card steps i) (step_at steps i)
+  abbrev lawful_at? : ℕ → Bool
+  lawful_at? i = lawful? card (known card steps i) (step_at steps i)
 
-  abbrev last-loop? : Bool
-  last-loop? = eqb (step_at steps (length steps - 1)).makes.source (step_at steps (length steps - 1)).makes.target
+  abbrev last_loop? : Bool
+  last_loop? = eqb (step_at steps (length steps - 1)).makes.source (step_at steps (length steps - 1)).makes.target
 
-  abbrev last-negative? : Bool
-  last-negative? = lt_z (step_at steps (length steps - 1)).makes.weight (pos 0)
+  abbrev last_negative? : Bool
+  last_negative? = lt_z (step_at steps (length steps - 1)).makes.weight (pos 0)
 
   abbrev list_tests : List Bool
-  list_tests = every (length steps) lawful-at? ∷ ltb 0 (length steps) ∷ last-loop? ∷ last-negative? ∷ []
+  list_tests = every (length steps) lawful_at? ∷ ltb 0 (length steps) ∷ last_loop? ∷ last_negative? ∷ []
 
   unfoldable pub passing? : Bool
   passing? = all_of list_tests
@@ -244,7 +244,7 @@ module _ (card : Card) (steps : List Step) where
   pub passing_is : T passing? → Reads card steps passes
   unfolding passing?
   passing_is h = (
-    λ i lt. lawful_is card (known card steps i) (step_at steps i) (at_each _ lawful-at? (nth list_tests h 0) i lt),
+    λ i lt. lawful_is card (known card steps i) (step_at steps i) (at_each _ lawful_at? (nth list_tests h 0) i lt),
     record { some_step = ltb→lt _ _ (nth list_tests h 1); itself = eqb→eq _ _ (nth list_tests h 2); negative = lt_z_yes (nth list_tests h 3) },
   )
 

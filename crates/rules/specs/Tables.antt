@@ -49,8 +49,8 @@ pub record SoundAtStart (card : Card) (D W : Table) : Type 0 where
   pub started : (s : ℕ) → s < span_count card → start_of card s ≡ 0 → pos 0 ≤ℤ W s 0
   pub waiting : (s : ℕ) → s < span_count card → start_of card s ≢ 0 → Released card s (W s 0)
 
--- The position fits the tables at minute t: a point that has not happened may still happen at t, one of the set `put-off` only after t.
-pub record Fits (card : Card) (D W : Table) (t : ℕ) (put-off : ℕ → Bool) (at : Position) : Type 0 where
+-- The position fits the tables at minute t: a point that has not happened may still happen at t, one of the set `put_off` only after t.
+pub record Fits (card : Card) (D W : Table) (t : ℕ) (put_off : ℕ → Bool) (at : Position) : Type 0 where
   -- only points have happened, not after t, and point 0 at 0
   pub point : (p a : ℕ) → at p ≡ Some a → p < card.points
   pub first : at 0 ≡ Some 0
@@ -59,7 +59,7 @@ pub record Fits (card : Card) (D W : Table) (t : ℕ) (put-off : ℕ → Bool) (
   pub apart : (p q a b : ℕ) → at p ≡ Some a → at q ≡ Some b → pos b ≤ℤ (pos a +ℤ D p q)
   -- a point that has not happened is not overdue, nor will it be if it is put off
   pub ahead : (p q a : ℕ) → at p ≡ Some a → q < card.points → at q ≡ None → pos t ≤ℤ (pos a +ℤ D p q)
-  pub ahead_late : (p q a : ℕ) → at p ≡ Some a → q < card.points → at q ≡ None → T (put-off q) → pos (suc t) ≤ℤ (pos a +ℤ D p q)
+  pub ahead_late : (p q a : ℕ) → at p ≡ Some a → q < card.points → at q ≡ None → T (put_off q) → pos (suc t) ≤ℤ (pos a +ℤ D p q)
   -- of a span that has not finished: if it has started, whatever has happened keeps the wait for it; if not, R applies to the wait
   pub started : (s p a b : ℕ) → s < span_count card → at p ≡ Some a → at (finish_of card s) ≡ None → at (start_of card s) ≡ Some b → pos b ≤ℤ (pos a +ℤ W s p)
   pub waiting : (s p a : ℕ) → s < span_count card → at p ≡ Some a → at (finish_of card s) ≡ None → at (start_of card s) ≡ None → Released card s (W s p)
