@@ -1,5 +1,5 @@
 -- What holds while an explanation is searched for.
-use Rattle.std.specs.Prelude.{◌≡◌, ℕ, suc, ◌+◌, ◌-◌, ◌<◌, ◌≤◌, Bool, true, false, ◌≢◌, List, length, get_or, ℤ, pos, negsuc, ◌+ℤ◌, neg_ℤ, ◌≤ℤ◌, ◌<ℤ◌, Some, None, Ok, Err, Option, Result, slice_index_or, slice_set}
+use Rattle.std.specs.Prelude.{◌≡◌, ℕ, suc, ◌+◌, ◌-◌, ◌<◌, ◌≤◌, Bool, true, false, ◌≢◌, List, length, ℤ, pos, negsuc, ◌+ℤ◌, neg_ℤ, ◌≤ℤ◌, ◌<ℤ◌, Some, None, Ok, Err, Option, Result, slice_index_or, slice_set}
 use Rattle.rules.specs.declared.edges.Kind.{Kind}
 use Rattle.rules.specs.declared.edges.Kind.TheVariants.{Plain, Lower, Wait, AllMost}
 use Rattle.rules.specs.declared.edges.Edge.{Edge}
@@ -166,7 +166,7 @@ pub record Blank (card : Card) (p x : ℕ) (w : ℤ) : Type 0 where
 -- the table is as good as the first k given edges
 pub record Loaded (card : Card) (e : List Best) (k : ℕ) : Type 0 where
   pub size : length e ≡ 1280
-  pub top : (j : ℕ) → j < 1280 → (get_or e j no_best).weight ≤ℤ pos 1441
+  pub top : (j : ℕ) → j < 1280 → (slice_index_or e j no_best).weight ≤ℤ pos 1441
   pub self : (p x : ℕ) → p < card.points → x < columns card → p ≡ head_of card x → at e p x ≡ pos 0
   pub high : (p x : ℕ) → p < card.points → x < columns card → at e p x ≤ℤ pos (suc card.horizon)
   pub stands : (p x : ℕ) → p < card.points → x < columns card → p ≢ head_of card x → at e p x ≤ℤ pos card.horizon

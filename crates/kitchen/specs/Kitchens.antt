@@ -1,5 +1,5 @@
 -- What a kitchen is by the list of its spans: what it keeps, and what its functions answer and change.
-use Rattle.std.specs.Prelude.{◌≡◌, ℕ, ◌+◌, ◌<◌, ◌≤◌, true, ◌⊎◌, List, length, get_or, Ok, Err, Result, ◌≢◌, slice_index_or, slice_set}
+use Rattle.std.specs.Prelude.{◌≡◌, ℕ, ◌+◌, ◌<◌, ◌≤◌, true, ◌⊎◌, List, length, Ok, Err, Result, ◌≢◌, slice_index_or, slice_set}
 use Rattle.rules.specs.declared.refusal.Refusal.{Refusal}
 use Rattle.rules.specs.declared.refusal.Refusal.TheVariants.{NoSpan, NotCold}
 use Rattle.kitchen.specs.declared.track.Track.{Track}
@@ -17,12 +17,12 @@ Lawful ts = (length ts ≤ 8) × AllFit ts (length ts)
 
 -- the least and the most of span i, or that there is no such span
 abbrev pub Bounds : List Track → ℕ → Result (ℕ × ℕ) Refusal → Type 0
-Bounds ts i (Ok b) = (i < length ts) × (b ≡ ((get_or ts i no_track).least, (get_or ts i no_track).most))
+Bounds ts i (Ok b) = (i < length ts) × (b ≡ ((slice_index_or ts i no_track).least, (slice_index_or ts i no_track).most))
 Bounds ts i (Err e) = (length ts ≤ i) × (e ≡ NoSpan)
 
 -- the status of span i, or that there is no such span
 abbrev pub Tells : List Track → ℕ → Result Status Refusal → Type 0
-Tells ts i (Ok s) = (i < length ts) × (s ≡ (get_or ts i no_track).status)
+Tells ts i (Ok s) = (i < length ts) × (s ≡ (slice_index_or ts i no_track).status)
 Tells ts i (Err e) = (length ts ≤ i) × (e ≡ NoSpan)
 
 -- the span has just been started
@@ -32,8 +32,8 @@ begun t = record { least = t.least; most = t.most; status = On 0 }
 -- a start of span i turns it from cold to on(0) and touches no other; it is refused exactly if there is no such span
 -- or it is not cold, and then nothing changes
 abbrev pub Started : List Track → ℕ → Result (Unit {0}) Refusal → List Track → Type 0
-Started ts i (Ok _) us = (i < length ts) × ((get_or ts i no_track).status ≡ Cold) × (us ≡ slice_set ts i (begun (slice_index_or ts i no_track)))
-Started ts i (Err e) us = (((length ts ≤ i) × (e ≡ NoSpan)) ⊎ ((i < length ts) × ((get_or ts i no_track).status ≢ Cold) × (e ≡ NotCold))) × (us ≡ ts)
+Started ts i (Ok _) us = (i < length ts) × ((slice_index_or ts i no_track).status ≡ Cold) × (us ≡ slice_set ts i (begun (slice_index_or ts i no_track)))
+Started ts i (Err e) us = (((length ts ≤ i) × (e ≡ NoSpan)) ⊎ ((i < length ts) × ((slice_index_or ts i no_track).status ≢ Cold) × (e ≡ NotCold))) × (us ≡ ts)
 
 -- what an advance may make of a status under the bounds least and most
 abbrev pub Next : ℕ → ℕ → Status → Status → Type 0

@@ -1,5 +1,5 @@
 -- What every card keeps, as facts over its content.
-use Rattle.std.specs.Prelude.{◌≡◌, ℕ, ◌+◌, ◌<◌, ◌≤◌, length, get_or, pos, negsuc, ◌≤ℤ◌, ◌≢◌, slice_index_or, slice_set}
+use Rattle.std.specs.Prelude.{◌≡◌, ℕ, ◌+◌, ◌<◌, ◌≤◌, length, pos, negsuc, ◌≤ℤ◌, ◌≢◌, slice_index_or, slice_set}
 use Rattle.rules.specs.declared.parts.Span.{Span}
 use Rattle.rules.specs.declared.parts.Tie.{Tie}
 use Rattle.rules.specs.Card.{no_span, no_tie}
@@ -29,7 +29,7 @@ SpansLead c = (s : ℕ) → s < c.spanned → Leads c.points (slice_index_or c.s
 
 -- a later span has a later finish
 abbrev pub SpansRise : Content → Type 0
-SpansRise c = (s : ℕ) → s < c.spanned → (r : ℕ) → r < s → (get_or c.spans r no_span).finish < (get_or c.spans s no_span).finish
+SpansRise c = (s : ℕ) → s < c.spanned → (r : ℕ) → r < s → (slice_index_or c.spans r no_span).finish < (slice_index_or c.spans s no_span).finish
 
 -- a tie leads from a point to another
 abbrev pub Joins : ℕ → Tie → Type 0

@@ -1,6 +1,6 @@
 -- A card, over numbers without a limit. (In the field: a simple temporal network with uncertainty, in whole minutes.) It says what has to happen
 -- within a number of minutes, what is up to the controller, who gives orders, and what to the kitchen, which lets spans take their time.
-use Rattle.std.specs.Prelude.{◌≡◌, ℕ, zero, suc, ◌<◌, ◌≤◌, Bool, true, false, cond, ◌&&◌, ◌||◌, List, length, get_or, ℤ, pos, Some, None, Option, ◌==◌, nat_lt, slice_index_or}
+use Rattle.std.specs.Prelude.{◌≡◌, ℕ, zero, suc, ◌<◌, ◌≤◌, Bool, true, false, cond, ◌&&◌, ◌||◌, List, length, ℤ, pos, Some, None, Option, ◌==◌, nat_lt, slice_index_or}
 use Rattle.rules.specs.declared.parts.Span.{Span}
 use Rattle.rules.specs.declared.parts.Tie.{Tie}
 
@@ -31,31 +31,31 @@ tie_count card = length card.ties
 
 -- the point that starts span s
 unfoldable pub start_of : Card → ℕ → ℕ
-start_of card s = (get_or card.spans s no_span).start
+start_of card s = (slice_index_or card.spans s no_span).start
 
 -- the point that is the finish of span s
 unfoldable pub finish_of : Card → ℕ → ℕ
-finish_of card s = (get_or card.spans s no_span).finish
+finish_of card s = (slice_index_or card.spans s no_span).finish
 
 -- how many minutes span s lasts at least
 unfoldable pub least_of : Card → ℕ → ℕ
-least_of card s = (get_or card.spans s no_span).least
+least_of card s = (slice_index_or card.spans s no_span).least
 
 -- how many minutes span s lasts at most
 unfoldable pub most_of : Card → ℕ → ℕ
-most_of card s = (get_or card.spans s no_span).most
+most_of card s = (slice_index_or card.spans s no_span).most
 
 -- the first point of tie i
 unfoldable pub from_of : Card → ℕ → ℕ
-from_of card i = (get_or card.ties i no_tie).from
+from_of card i = (slice_index_or card.ties i no_tie).from
 
 -- the second point of tie i
 unfoldable pub to_of : Card → ℕ → ℕ
-to_of card i = (get_or card.ties i no_tie).to
+to_of card i = (slice_index_or card.ties i no_tie).to
 
 -- how far the second point of tie i may come after the first
 unfoldable pub gap_of : Card → ℕ → ℤ
-gap_of card i = (get_or card.ties i no_tie).gap
+gap_of card i = (slice_index_or card.ties i no_tie).gap
 
 -- span s, and tie i, where there is one
 unfoldable pub span_at : Card → ℕ → Option Span

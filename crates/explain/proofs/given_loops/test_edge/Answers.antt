@@ -12,7 +12,7 @@ use Rattle.explain.proofs.Loading.{found_edge, edge_there, some_none}
 use Rattle.explain.proofs.Testing.{it, head_below, near_back, this_stands, back_given, back_detour, tested, written_none}
 use Rattle.explain.proofs.given_loops.test_edge.Goals as goal
 
--- what closes no loop with a weight of at most the limit is not below it
+-- a weight w that closes no negative loop with a weight a, which is h at most, is -h at least
 above_limit : (a w : ℤ) (h : ℕ) → pos 0 ≤ℤ (a +ℤ w) → a ≤ℤ pos h → neg_ℤ (pos h) ≤ℤ w
 above_limit a w h sum le = omega (arith, ints)
 
