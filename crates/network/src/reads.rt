@@ -20,6 +20,20 @@ impl Network {
         self.content.points
     }
 
+    /// The spans, in rising number.
+    pub fn spans(&self) -> &[Span]
+        ensures { result.now ≡ (model self.now.content).spans }
+    {
+        &self.content.spans[..self.content.spanned]
+    }
+
+    /// The ties, in rising number.
+    pub fn ties(&self) -> &[Tie]
+        ensures { result.now ≡ (model self.now.content).ties }
+    {
+        &self.content.ties[..self.content.tied]
+    }
+
     pub fn span_count(&self) -> usize
         ensures { result ≡ span_count (model self.now.content) }
     {
