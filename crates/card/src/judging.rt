@@ -7,7 +7,7 @@ ghost use Rattle.card.specs.Promises.{Built, Tried};
 use crate::closed::ClosedCard;
 use crate::trial::Trial;
 use judge::marking::{Mark, mark_of};
-use network::builds::among_fault;
+use network::builds::check_among;
 use network::network::Network;
 use rules::parts::Tie;
 use rules::refusal::Refusal;
@@ -34,9 +34,7 @@ impl ClosedCard {
             old,
         };
         trial.content.ties[at] = tie;
-        if let Some(fault) = among_fault(trial.content.points, tie) {
-            return Err(fault);
-        }
+        check_among(trial.content.points, tie)?;
         let network = Network::on_trial(&*trial.content);
         Ok(mark_of(&network))
     }

@@ -23,6 +23,6 @@ impl ClosedCard {
     pub fn next_edge(&self, steps: &[Step], letter: u8, left: u32, right: u32) -> Option<Edge>
         ensures { Makes (model self.now.network.content) (known (model self.now.network.content) steps.now (length steps.now)) letter left right result }
     {
-        steps::reads::next_edge(&self.network, steps, steps.len(), letter, left, right)
+        steps::reads::next_edge(&self.network, steps, letter, left, right)
     }
 }

@@ -1,10 +1,11 @@
 -- One span or tie more: what a call that is not refused brings, and that the content keeps what it kept.
-use Rattle.std.proofs.Common.{◌≡◌, ℕ, ◌+◌, ◌<◌, ◌≤◌, ◌≢◌, List, length, get_or, set, Some, None, Ok, Err, sym, ap, ◌∙◌, add-one, arith, length-set, get_or-set_other, get_or-set_same, below_more}
+use Rattle.std.proofs.Common.{◌≡◌, ℕ, ◌+◌, ◌<◌, ◌≤◌, ◌≢◌, List, length, get_or, set, Option, Some, None, Result, Ok, Err, refl, sym, ap, ◌∙◌, add-one, arith, length-set, get_or-set_other, get_or-set_same, below_more}
 use Rattle.std.proofs.lemmas.Bool.Decides.{nat_tests}
 use Rattle.std.proofs.lemmas.Int.{ints}
 use Rattle.std.proofs.lemmas.List.{take_more_set, set-set, set-get_or}
 use Rattle.rules.specs.declared.parts.Span.{Span}
 use Rattle.rules.specs.declared.parts.Tie.{Tie}
+use Rattle.rules.specs.declared.refusal.Refusal.{Refusal}
 use Rattle.rules.specs.declared.refusal.Refusal.TheVariants.{TiesFull}
 use Rattle.rules.specs.Card.{Card, no_span, no_tie, span_count, tie_count}
 use Rattle.rules.specs.Calls.{span_fault, try_fault, tie_fault, tie_answer, answered, unless, spanned, tied, with_span, with_tie}
@@ -13,6 +14,16 @@ use Rattle.network.specs.declared.network.Network.{Network}
 use Rattle.network.specs.Model.{model}
 use Rattle.network.specs.Kept.{Lasts, Leads, Joins, Near, Kept, counted, with_spare}
 use Rattle.network.proofs.Parts.{span_count_is, tie_count_is}
+
+-- a check that passes found no fault
+pub passed : (f : Option Refusal) (r : Result (Unit {0}) Refusal) → r ≡ answered f tt → r ≡ Ok tt → f ≡ None
+passed None r e k = refl
+passed (Some x) r e k = cc
+
+-- one that fails tells it
+pub failed : (f : Option Refusal) (r : Result (Unit {0}) Refusal) (x : Refusal) → r ≡ answered f tt → r ≡ Err x → f ≡ Some x
+failed None r x e k = cc
+failed (Some y) r x e k = cc
 
 pub span_free : (card : Card) (a l u : ℕ) → span_fault card a l u ≡ None
     → (a < card.points) × (1 ≤ l) × (l ≤ u) × (u ≤ 1440) × (card.points < 32) × (span_count card < 8)

@@ -1,6 +1,7 @@
 -- The parts of a card, by number, are those of its arrays.
-use Rattle.std.proofs.Common.{◌≡◌, ℕ, ◌<◌, true, false, T, get_or, sym, ap, ◌∙◌, subst, arith, length-take-le, get_or-take}
-use Rattle.rules.specs.Card.{no_span, no_tie, span_count, tie_count, start_of, finish_of, least_of, most_of, from_of, to_of, gap_of, is_finish}
+use Rattle.std.proofs.Common.{◌≡◌, ℕ, ◌<◌, Bool, true, false, T, length, get_or, MatchBool, sym, ap, subst, arith, length-take-le, get_or-take}
+use Rattle.std.specs.List.{HoldsAt, AllWithin}
+use Rattle.rules.specs.Card.{Card, no_span, no_tie, span_count, tie_count, start_of, finish_of, least_of, most_of, from_of, to_of, gap_of, is_finish}
 use Rattle.rules.proofs.Flags.{so, not_so}
 use Rattle.rules.proofs.Basics.{finish_is as the-span, is_finish_of}
 use Rattle.network.specs.declared.content.Content.{Content}
@@ -54,16 +55,11 @@ module _ (c : Content) (i : ℕ) (h : i < c.tied) where
 
 -- ---- finishes
 
-module _ (n : Network) (p : ℕ) where
-  pub finish_none : ((s : ℕ) → s < n.content.spanned → (get_or n.content.spans s no_span).finish ≡ p → ⊥) → is_finish (model n.content) p ≡ false
-  finish_none none =
-      not_so
-      (λ t.
-      let r = the-span (model n.content) p t in
-      let h : r.0 < n.content.spanned = omega (arith, r.1, span_count_is n) in
-      none r.0 h (sym (finish_is n.content r.0 h) ∙ r.2))
-
-  pub finish_some : (s : ℕ) → s < n.content.spanned → (get_or n.content.spans s no_span).finish ≡ p → is_finish (model n.content) p ≡ true
-  finish_some s h e =
-      let m = model n.content in
-      so (subst (λ q. T (is_finish m q)) (finish_is n.content s h ∙ e) (is_finish_of m s (omega (arith, span_count_is n))))
+-- a search through the spans for a finish tells whether the point is one
+pub finish_found : (card : Card) (p : ℕ) (r : Bool)
+    → MatchBool r ((s : ℕ) × (s < length card.spans) × HoldsAt (λ x. x.finish ≡ p) card.spans s) (AllWithin (λ x. x.finish ≡ p → ⊥) card.spans 0 (length card.spans))
+    → r ≡ is_finish card p
+unfolding span_count finish_of
+finish_found card p true found = sym (so (subst (λ q. T (is_finish card q)) (found.2 no_span) (is_finish_of card found.0 found.1)))
+finish_found card p false none =
+    sym (not_so (λ t. let r = the-span card p t in none r.0 no_span (omega arith) r.1 r.2))

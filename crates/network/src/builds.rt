@@ -1,6 +1,6 @@
 //! What building calls make of a network.
 ghost use Rattle.std.specs.Prelude.{◌≡◌, ◌≤◌};
-ghost use Rattle.rules.specs.Calls.{fresh, open_answer, opened, order_answer, ordered, span_fault, span_answer, spanned, among_fault, try_fault, tie_answer, tied, with_horizon};
+ghost use Rattle.rules.specs.Calls.{fresh, open_answer, opened, answered, order_answer, ordered, span_fault, span_answer, spanned, among_fault, try_fault, tie_answer, tied, with_horizon};
 ghost use Rattle.network.specs.Kept.{Kept, counted};
 ghost use Rattle.network.specs.Model.{model};
 
@@ -33,20 +33,20 @@ const NO_TIE: Tie = Tie {
     gap: 0,
 };
 
-/// Why a tie is refused among so many points, if it is.
-pub fn among_fault(points: usize, tie: Tie) -> Option<Refusal>
-    ensures { result ≡ among_fault points tie }
+/// Whether a tie is among so many points, or why it is refused.
+pub fn check_among(points: usize, tie: Tie) -> Result<(), Refusal>
+    ensures { result ≡ answered (among_fault points tie) tt }
 {
     if usize::from(tie.from) >= points || usize::from(tie.to) >= points {
-        return Some(Refusal::NoPoint);
+        return Err(Refusal::NoPoint);
     }
     if tie.from == tie.to {
-        return Some(Refusal::SamePoint);
+        return Err(Refusal::SamePoint);
     }
     if tie.gap < -MAX_GAP || tie.gap > MAX_GAP {
-        return Some(Refusal::GapRange);
+        return Err(Refusal::GapRange);
     }
-    None
+    Ok(())
 }
 
 impl Network {
@@ -92,26 +92,26 @@ impl Network {
         Ok(point as u8)
     }
 
-    /// Why a span is refused, if it is.
-    fn span_fault(&self, start: u8, least: u16, most: u16) -> Option<Refusal>
-        ensures { result ≡ span_fault (model self.now.content) start least most }
+    /// Whether a span can be added, or why it is refused.
+    fn check_span(&self, start: u8, least: u16, most: u16) -> Result<(), Refusal>
+        ensures { result ≡ answered (span_fault (model self.now.content) start least most) tt }
     {
         if usize::from(start) >= self.content.points {
-            return Some(Refusal::NoPoint);
+            return Err(Refusal::NoPoint);
         }
         if self.is_finish(start) {
-            return Some(Refusal::StartIsFinish);
+            return Err(Refusal::StartIsFinish);
         }
         if least < 1 || most < least || most > MAX_MINUTES {
-            return Some(Refusal::BoundsRange);
+            return Err(Refusal::BoundsRange);
         }
         if self.content.points >= MAX_POINTS {
-            return Some(Refusal::PointsFull);
+            return Err(Refusal::PointsFull);
         }
         if self.content.spanned >= MAX_SPANS {
-            return Some(Refusal::SpansFull);
+            return Err(Refusal::SpansFull);
         }
-        None
+        Ok(())
     }
 
     /// The next span, and as its finish the next point.
@@ -119,9 +119,7 @@ impl Network {
         ensures answer { result ≡ span_answer (model self.old.content) start least most }
         ensures card { model self.new.content ≡ spanned start least most (model self.old.content) }
     {
-        if let Some(fault) = self.span_fault(start, least, most) {
-            return Err(fault);
-        }
+        self.check_span(start, least, most)?;
         let at = self.content.spanned;
         let finish = self.content.points as u8;
         self.content.spans[at] = Span {
@@ -135,11 +133,11 @@ impl Network {
         Ok(finish)
     }
 
-    /// Why a tie is refused, if it is, whatever room there is for it.
-    pub fn try_fault(&self, tie: Tie) -> Option<Refusal>
-        ensures { result ≡ try_fault (model self.now.content) tie }
+    /// Whether a tie joins the points of the network, or why it is refused, whatever room there is for it.
+    pub fn check_tie(&self, tie: Tie) -> Result<(), Refusal>
+        ensures { result ≡ answered (try_fault (model self.now.content) tie) tt }
     {
-        among_fault(self.content.points, tie)
+        check_among(self.content.points, tie)
     }
 
     /// The next tie.
@@ -147,9 +145,7 @@ impl Network {
         ensures answer { result ≡ tie_answer (model self.old.content) tie }
         ensures card { model self.new.content ≡ tied tie (model self.old.content) }
     {
-        if let Some(fault) = self.try_fault(tie) {
-            return Err(fault);
-        }
+        self.check_tie(tie)?;
         let at = self.content.tied;
         if at >= MAX_TIES {
             return Err(Refusal::TiesFull);

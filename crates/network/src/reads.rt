@@ -49,30 +49,19 @@ impl Network {
     pub fn span(&self, s: usize) -> Option<Span>
         ensures { result ≡ span_at (model self.now.content) s }
     {
-        if s >= self.content.spanned {
-            return None;
-        }
-        Some(self.content.spans[s])
+        self.spans().get(s).copied()
     }
 
     pub fn tie(&self, i: usize) -> Option<Tie>
         ensures { result ≡ tie_at (model self.now.content) i }
     {
-        if i >= self.content.tied {
-            return None;
-        }
-        Some(self.content.ties[i])
+        self.ties().get(i).copied()
     }
 
     /// Whether a point is the finish of a span; every other point is an order.
     pub fn is_finish(&self, point: u8) -> bool
         ensures { result ≡ is_finish (model self.now.content) point }
     {
-        for s in 0..self.content.spanned {
-            if self.content.spans[s].finish == point {
-                return true;
-            }
-        }
-        false
+        self.spans().iter().any(|span| span.finish == point)
     }
 }

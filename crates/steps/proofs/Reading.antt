@@ -1,5 +1,5 @@
 -- The edges known to a reader, and what is lawful where they are known.
-use Rattle.std.proofs.Common.{◌≡◌, ℕ, zero, suc, ◌+◌, ◌-◌, ◌<◌, ◌≤◌, Bool, true, false, cond, ltb, List, [], ◌∷◌, ◌++◌, length, get_or, pos, ◌<ℤ◌, Some, None, Decides, Option, sym, refl, ap, ◌∙◌, subst, arith, length-append}
+use Rattle.std.proofs.Common.{◌≡◌, ℕ, zero, suc, ◌+◌, ◌-◌, ◌<◌, ◌≤◌, Bool, true, false, cond, ltb, List, [], ◌∷◌, ◌++◌, length, get_or, pos, ◌<ℤ◌, Some, None, Decides, Option, sym, refl, ap, ◌∙◌, subst, arith, take, length-append, length-take-le, get_or-take}
 use native.Mathlib.Decide.{ℕ_discrete}
 use Rattle.std.proofs.lemmas.List.{get_or_append_left, get_or-append-add, get_or_default}
 use Rattle.std.proofs.lemmas.Bool.{ltb-true, false≢true}
@@ -7,7 +7,7 @@ use Rattle.rules.specs.declared.edges.Edge.{Edge}
 use Rattle.rules.specs.declared.edges.Step.{Step}
 use Rattle.rules.specs.Card.{Card}
 use Rattle.rules.specs.Edges.{Rule}
-use Rattle.rules.specs.Steps.{given, no_edge, edge_at, step_at, known, LawfulStep, Closing}
+use Rattle.rules.specs.Steps.{given, no_edge, edge_at, step_at, known, all_known, LawfulStep, Closing}
 use Rattle.steps.specs.Makes.{makes}
 use Rattle.steps.specs.Reading.{Makes, step_of}
 use Rattle.steps.proofs.Numbers.{edge_some, edge_none}
@@ -48,6 +48,17 @@ module _ (card : Card) (steps : List Step) where
 
   pub known_none : (n k : ℕ) → length (given card) + n ≤ k → None ≡ edge_at (known card steps n) k
   known_none n k h = edge_none (known card steps n) k (omega (arith, known_length n))
+
+-- the edges known after n steps hang on those steps alone
+known_same : (card : Card) (xs ys : List Step) (n : ℕ) → ((i : ℕ) → i < n → step_at xs i ≡ step_at ys i) → known card xs n ≡ known card ys n
+unfolding known
+known_same card xs ys zero e = refl
+known_same card xs ys (suc n) e = let h = e n (omega arith) in let k = known_same card xs ys n (λ i lt. e i (omega arith)) in cc
+
+pub known_prefix : (card : Card) (steps : List Step) (n : ℕ) → n ≤ length steps → all_known card (take n steps) ≡ known card steps n
+unfolding step_at
+known_prefix card steps n h =
+    ap (known card (take n steps)) (length-take-le n steps h) ∙ known_same card (take n steps) steps n (λ i lt. get_or-take _ _ _ _ lt)
 
 -- ---- a step where these edges are known
 

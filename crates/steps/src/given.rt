@@ -86,11 +86,7 @@ pub fn given_edge(network: &Network, number: usize) -> Option<Edge>
     if number < of_points + of_spans {
         return Some(span_edge(network, number - of_points));
     }
-    let i = number - of_points - of_spans;
-    if i >= content.tied {
-        return None;
-    }
-    let tie = content.ties[i];
+    let tie = network.tie(number - of_points - of_spans)?;
     Some(Edge {
         kind: Kind::Plain,
         source: tie.from,

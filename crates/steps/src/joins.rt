@@ -82,11 +82,7 @@ fn lower_wait(left: Edge, right: Edge) -> Option<Edge>
 fn least_of(network: &Network, span: u8) -> u16
     ensures { result ≡ least_of (model network.now.content) span }
 {
-    let s = span as usize;
-    if s >= network.content.spanned {
-        return 0;
-    }
-    network.content.spans[s].least
+    network.span(span as usize).map_or(0, |span| span.least)
 }
 
 /// R: a wait of no more than the least of its span.

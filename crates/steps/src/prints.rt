@@ -10,13 +10,7 @@ fn letter_of(step: Step) -> char
     ensures { result ≡ letter_shown step.letter }
 {
     match char::from(step.letter) {
-        'N' => 'N',
-        'U' => 'U',
-        'L' => 'L',
-        'X' => 'X',
-        'R' => 'R',
-        'M' => 'M',
-        'S' => 'S',
+        letter @ ('N' | 'U' | 'L' | 'X' | 'R' | 'M' | 'S') => letter,
         _ => '?',
     }
 }

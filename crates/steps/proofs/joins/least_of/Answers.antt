@@ -1,10 +1,12 @@
-use Rattle.std.proofs.Common.{sym, arith}
-use Rattle.network.proofs.Parts.{least_is}
+use Rattle.std.proofs.Common.{arith}
+use Rattle.std.proofs.lemmas.Bool.Decides.{nat_tests}
+use Rattle.network.proofs.Parts.{span_count_is}
+use Rattle.rules.specs.Card.{span_at, least_of}
 use Rattle.steps.proofs.Numbers.{least_none}
 use Rattle.steps.proofs.joins.least_of.Goals as goal
 
-pub returns-then-s-network : goal.returns-then-s-network
-returns-then-s-network c = sym (least_none c.args.network.now c.args.span (omega arith))
-
 pub returns : goal.returns
-returns c = sym (least_is c.args.network.now.content c.args.span (omega arith))
+unfolding span_at least_of
+returns c =
+    let e = c.span.ensures in let n = span_count_is c.args.network.now in let p = least_none c.args.network.now c.args.span in
+    let m = c.map_or.ensures in grind (arith, nat_tests)

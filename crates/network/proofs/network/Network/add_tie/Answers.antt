@@ -1,15 +1,15 @@
-use Rattle.std.proofs.Common.{sym, ◌∙◌, arith}
-use Rattle.network.proofs.Growing.{tie_kept, tie_full, tie_added}
+use Rattle.std.proofs.Common.{arith}
+use Rattle.network.proofs.Growing.{passed, tie_kept, tie_full, tie_added}
 use Rattle.network.proofs.network.Network.add_tie.Goals as goal
 
 pub returns-then-at-ge-MAX_TIES : goal.returns-then-at-ge-MAX_TIES
 returns-then-at-ge-MAX_TIES c =
-    let r = tie_full c.args.self.now c.args.tie (sym c.try_fault.ensures ∙ c.in_default.is) c.if-at-ge-MAX_TIES.true in
+    let r = tie_full c.args.self.now c.args.tie (passed _ _ c.check_tie.ensures c.in_ok-check_tie.was) c.if-at-ge-MAX_TIES.true in
     record { answer = r.0; card = r.1 }
 
 pub invariant_of-self : goal.invariant_of-self
 invariant_of-self c =
-    let k = tie_kept c.args.self.now c.args.tie (sym c.try_fault.ensures ∙ c.in_default.is) (omega arith)
+    let k = tie_kept c.args.self.now c.args.tie (passed _ _ c.check_tie.ensures c.in_ok-check_tie.was) (omega arith)
     in
     record {
       counts = k.0;
@@ -23,5 +23,5 @@ invariant_of-self c =
 
 pub returns : goal.returns
 returns c =
-    let r = tie_added c.args.self.now c.args.tie (sym c.try_fault.ensures ∙ c.in_default.is) c.if-at-ge-MAX_TIES.false in
+    let r = tie_added c.args.self.now c.args.tie (passed _ _ c.check_tie.ensures c.in_ok-check_tie.was) c.if-at-ge-MAX_TIES.false in
     record { answer = r.0; card = r.1 }
