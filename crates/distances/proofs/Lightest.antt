@@ -1,14 +1,14 @@
 -- The lightest edge of a list that grows, and the edges that are given.
-use Rattle.std.proofs.Common.{◌≡◌, ℕ, zero, suc, ◌+◌, ◌≤◌, Bool, true, false, cond, ◌&&◌, T, eqb, List, [], ◌∷◌, ◌++◌, get_or, take, replicate, ℤ, pos, negsuc, nat_abs, ◌≤ℤ◌, Some, None, sym, refl, ap, ◌∙◌, subst, arith, eqb→eq}
+use Rattle.std.proofs.Common.{◌≡◌, ℕ, zero, suc, ◌+◌, ◌≤◌, Bool, true, false, cond, ◌&&◌, eqb, List, [], ◌∷◌, ◌++◌, get_or, take, replicate, ℤ, pos, negsuc, nat_abs, ◌≤ℤ◌, Some, None, sym, refl, ap, ◌∙◌, subst, arith}
 use native.Mathlib.Decide.{ℕ_discrete}
 use lib.Dec.{eqb_refl}
 use Rattle.rules.proofs.Flags.{so}
 use Rattle.rules.proofs.Numbered.{all_given}
 use Rattle.steps.proofs.Reading.{edge_known}
 use Rattle.std.proofs.ByRecursion.{All-get_or}
-use lib.Signed.{lt_z}
 use Rattle.std.specs.List.{AllByRecursion}
 use Rattle.std.proofs.lemmas.List.{take_more}
+use Rattle.std.proofs.lemmas.Bool.Decides.{nat_tests}
 use Rattle.std.proofs.lemmas.Int.{ints}
 use Rattle.rules.specs.declared.edges.Kind.TheVariants.{Plain}
 use Rattle.rules.specs.declared.edges.Edge.{Edge}
@@ -38,32 +38,23 @@ module _ (e : Edge) where
   weight_same k = rw (k, so (eqb_refl e.source), so (eqb_refl e.target))
 
   weight_other : (p q : ℕ) → (p ≡ e.source → q ≡ e.target → ⊥) → weight_of e p q ≡ None
-  weight_other p q ne = by (is_plain e.kind) (eqb e.source p) (eqb e.target q) (λ a b. ne (sym (eqb→eq e.source p a)) (sym (eqb→eq e.target q b)))
-    where
-      by : (k a b : Bool) → (T a → T b → ⊥) → cond (k && (a && b)) (Some e.weight) None ≡ None
-      by false a b n = refl
-      by true false b n = refl
-      by true true false n = refl
-      by true true true n = absurd (n tt tt)
+  weight_other p q ne = grind (arith, nat_tests)
 
-  pub noted : (e.kind ≡ Plain) → (old new : ℕ → ℕ → Whole)
-      → new e.source e.target ≡ lesser (old e.source e.target) (Some e.weight)
-      → ((p q : ℕ) → (p ≡ e.source → q ≡ e.target → ⊥) → new p q ≡ old p q)
+  pub noted : (e.kind ≡ Plain) → (s t : ℕ) → s ≡ e.source → t ≡ e.target → (old new : ℕ → ℕ → Whole)
+      → new s t ≡ lesser (old s t) (Some e.weight)
+      → ((p q : ℕ) → (p ≡ s → q ≡ t → ⊥) → new p q ≡ old p q)
       → (p q : ℕ) → new p q ≡ lesser (old p q) (weight_of e p q)
-  noted plain old new here others p q =
-      elim (ℕ_discrete p e.source) [
-        | yes a ↦ elim (ℕ_discrete q e.target) [
-          | yes b ↦ subst (λ x. new x q ≡ lesser (old x q) (weight_of e x q)) (sym a) (subst (λ y. new e.source y ≡ lesser (old e.source y) (weight_of e e.source y)) (sym b) (here ∙ ap (lesser (old e.source e.target)) (sym (weight_same plain))))
+  noted plain s t from to old new here others p q =
+      elim (ℕ_discrete p s) [
+        | yes a ↦ elim (ℕ_discrete q t) [
+          | yes b ↦ rw (a, b) (here ∙ ap (lesser (old s t)) (sym (ap (weight_of e s) to ∙ ap (λ x. weight_of e x e.target) from ∙ weight_same plain)))
           | no b ↦ apart (λ x y. b y)
         ]
         | no a ↦ apart (λ x y. a x)
       ]
     where
-      apart : (p ≡ e.source → q ≡ e.target → ⊥) → new p q ≡ lesser (old p q) (weight_of e p q)
-      apart ne = others p q ne ∙ sym (lesser_none (old p q)) ∙ ap (lesser (old p q)) (sym (weight_other p q ne))
-
-  pub not_noted : (is_plain e.kind ≡ false) → (a : Whole) (p q : ℕ) → a ≡ lesser a (weight_of e p q)
-  not_noted k a p q = rw k (sym (lesser_none a))
+      apart : (p ≡ s → q ≡ t → ⊥) → new p q ≡ lesser (old p q) (weight_of e p q)
+      apart ne = others p q ne ∙ sym (lesser_none (old p q)) ∙ ap (lesser (old p q)) (sym (weight_other p q (λ x y. ne (x ∙ sym from) (y ∙ sym to))))
 
 -- ---- the edges that are given
 
@@ -116,8 +107,7 @@ absent_all x e =
 -- ---- sizes
 
 abs_small : (z : ℤ) → negsuc 1439 ≤ℤ z → z ≤ℤ pos 1440 → nat_abs z ≤ 1440
-abs_small (pos n) low high = omega (arith, ints)
-abs_small (negsuc n) low high = omega (arith, ints)
+abs_small z low high = omega (arith, ints)
 
 weight_small : (e : Edge) (p q : ℕ) → Near 32 e → far (weight_of e p q) ≤ 1440
 weight_small e p q near = by (is_plain e.kind && (eqb e.source p && eqb e.target q))
@@ -126,14 +116,10 @@ weight_small e p q near = by (is_plain e.kind && (eqb e.source p && eqb e.target
     by true = abs_small e.weight near.low near.high
     by false = omega arith
 
-either_small : (b : Bool) (x y : ℤ) → nat_abs x ≤ 1440 → nat_abs y ≤ 1440 → nat_abs (cond b y x) ≤ 1440
-either_small true x y h k = k
-either_small false x y h k = h
-
 lesser_small : (a b : Whole) → far a ≤ 1440 → far b ≤ 1440 → far (lesser a b) ≤ 1440
 lesser_small None b h k = k
 lesser_small (Some x) None h k = h
-lesser_small (Some x) (Some y) h k = either_small (lt_z y x) x y h k
+lesser_small (Some x) (Some y) h k = grind (arith, ints)
 
 lightest_small : (es : List Edge) → AllByRecursion (Near 32) es → (p q : ℕ) → far (lightest es p q) ≤ 1440
 lightest_small [] all p q = omega arith

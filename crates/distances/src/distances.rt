@@ -10,11 +10,9 @@ use crate::weights::given_weights;
 use network::network::Network;
 use walks::closure::best_walks;
 use walks::minutes::Minutes;
-use walks::table::weight_at;
-use walks::weight::Weight;
 
 /// A weight from each point to each.
-#[derive(Clone, Copy)]
+#[derive(Clone, Copy, PartialEq, Eq, Debug)]
 pub struct Distances {
     pub table: [[Minutes; 32]; 32],
 }
@@ -44,9 +42,7 @@ impl Distances {
     pub fn get(&self, from: u8, to: u8) -> Option<i32>
         ensures { result ≡ (if nat_lt from 32 && nat_lt to 32 then cell of_minutes absent_minutes self.now.table from to else None) }
     {
-        if from >= 32 || to >= 32 {
-            return None;
-        }
-        weight_at(&self.table[from as usize], to as usize).get()
+        let row = self.table.get(usize::from(from))?;
+        row.get(usize::from(to))?.get()
     }
 }

@@ -1,5 +1,5 @@
 //! The given plain edges as a table of weights.
-ghost use Rattle.std.specs.Prelude.{◌≡◌, ℕ, ◌+◌, ◌<◌, length, take};
+ghost use Rattle.std.specs.Prelude.{◌≡◌, ℕ};
 ghost use Rattle.rules.specs.Steps.{given};
 ghost use Rattle.network.specs.Model.{model};
 ghost use Rattle.walks.specs.Minutes.{of_minutes, absent_minutes, lesser};
@@ -14,29 +14,17 @@ use walks::table::{put_weight, weight_at};
 use walks::weight::Weight;
 
 /// Notes an edge in the table, if it is plain and lighter than what stands there.
+// A table as the walks take it.
 fn note(table: &mut [[Minutes; 32]; 32], edge: Edge)
     requires { Near 32 edge }
     ensures { (p q : ℕ) → cell of_minutes absent_minutes table.new p q ≡ lesser (cell of_minutes absent_minutes table.old p q) (weight_of edge p q) }
 {
-    let Kind::Plain = edge.kind else {
-        return;
-    };
-    let p = edge.source as usize;
-    let q = edge.target as usize;
-    let old = weight_at(&table[p], q);
-    put_weight(table, p, q, old.choose(Minutes::of(edge.weight as i16)));
-}
-
-/// Notes the given edge of this number in a table of those before it.
-fn note_given(table: &mut [[Minutes; 32]; 32], network: &Network, number: usize)
-    requires within { number < length (given (model network.now.content)) }
-    requires before { Holds table.old (take number (given (model network.now.content))) }
-    ensures { Holds table.new (take (number + 1) (given (model network.now.content))) }
-{
-    let Some(edge) = given_edge(network, number) else {
-        return;
-    };
-    note(table, edge);
+    if edge.kind == Kind::Plain {
+        let p = usize::from(edge.source);
+        let q = usize::from(edge.target);
+        let lighter = weight_at(&table[p], q).choose(Minutes::of(edge.weight as i16));
+        put_weight(table, p, q, lighter);
+    }
 }
 
 /// The lightest given plain edge from each point to each.
@@ -44,8 +32,11 @@ pub fn given_weights(network: &Network) -> [[Minutes; 32]; 32]
     ensures { Holds result (given (model network.now.content)) }
 {
     let mut table = [[Minutes::absent(); 32]; 32];
+    // A number: an edge of a card is worked out from it.
     for number in 0..given_count(network) {
-        note_given(&mut table, network, number);
+        if let Some(edge) = given_edge(network, number) {
+            note(&mut table, edge);
+        }
     }
     table
 }

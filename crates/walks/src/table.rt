@@ -1,8 +1,10 @@
 //! Tables of weights as arrays of rows: reads, writes and copies.
-ghost use Rattle.std.specs.Prelude.{◌≡◌, ℕ, ◌<◌, ◌≤◌, ◌≢◌, slice_index_or};
+ghost use Rattle.std.specs.Prelude.{◌≡◌, ℕ, ◌<◌, ◌≤◌, ◌≢◌, length, slice_index_or};
 ghost use Rattle.walks.specs.Tables.{entry, Beyond};
 
 use crate::weight::Weight;
+
+// Reads and writes as functions of their own: their contracts name the entry, which the proofs of other crates use.
 
 /// The weight at place q of a row.
 pub fn weight_at<W: Weight, const N: usize>(row: &[W; N], q: usize) -> W
@@ -21,29 +23,15 @@ pub fn put_weight<W: Weight, const N: usize>(table: &mut [[W; N]; N], p: usize, 
     table[p][q] = weight;
 }
 
-/// Writes the first n weights of `row` into row p of `into`.
-pub(crate) fn put_row<W: Weight, const N: usize>(
-    into: &mut [[W; N]; N],
-    n: usize,
-    p: usize,
-    row: &[W; N],
-)
-    requires { (n ≤ N) × (p < N) }
-    ensures here { (q : ℕ) → q < n → entry W.absent into.new p q ≡ slice_index_or row.now q W.absent }
-    ensures others { (k q : ℕ) → (k ≡ p → q < n → ⊥) → entry W.absent into.new k q ≡ entry W.absent into.old k q }
+/// Copies the weights between as many points as there are rows.
+pub(crate) fn copy<W: Weight, const N: usize>(from: &[[W; N]], into: &mut [[W; N]])
+    requires { (length into.old ≡ length from.now) × (length from.now ≤ N) }
+    ensures here { (p q : ℕ) → p < length from.now → q < length from.now → entry W.absent into.new p q ≡ entry W.absent from.now p q }
+    ensures beyond { Beyond W.absent (length from.now) into.old into.new }
 {
-    for q in 0..n {
-        put_weight(into, p, q, weight_at(row, q));
-    }
-}
-
-/// Copies the first n weights of the first n rows.
-pub(crate) fn copy<W: Weight, const N: usize>(from: &[[W; N]; N], into: &mut [[W; N]; N], n: usize)
-    requires { n ≤ N }
-    ensures here { (p q : ℕ) → p < n → q < n → entry W.absent into.new p q ≡ entry W.absent from.now p q }
-    ensures beyond { Beyond W.absent n into.old into.new }
-{
-    for p in 0..n {
-        put_row(into, n, p, &from[p]);
+    let n = from.len();
+    // An index: after a loop over a zip with `iter_mut` no fact about what was written is to be had.
+    for (p, row) in into.iter_mut().enumerate() {
+        row[..n].copy_from_slice(&from[p][..n]);
     }
 }

@@ -1,37 +1,19 @@
 //! Best weights over walks to one target, edge by edge.
-ghost use Rattle.std.specs.Prelude.{◌≡◌, ℕ, ◌+◌, ◌*◌, ◌/◌, ◌<◌, ◌≤◌, slice_index_or};
+ghost use Rattle.std.specs.Prelude.{◌≡◌, ℕ, ◌+◌, ◌*◌, ◌/◌, ◌<◌, ◌≤◌, length};
 ghost use Rattle.walks.specs.Tables.{at, cell, Small, SmallRow, BeyondRow};
 ghost use Rattle.walks.specs.Walks.{Best, toward, through};
 
-use crate::table::weight_at;
 use crate::weight::Weight;
 
-/// Writes the first n weights of `row` into `into`.
-fn copy_row<W: Weight, const N: usize>(row: &[W; N], into: &mut [W; N], n: usize)
-    requires { n ≤ N }
-    ensures here { (p : ℕ) → p < n → slice_index_or into.new p W.absent ≡ slice_index_or row.now p W.absent }
-    ensures beyond { BeyondRow W.absent n into.old into.new }
+/// Chooses each weight of `into` with the way by an edge to r and then by `last`.
+fn prepend<W: Weight, const N: usize>(edges: &[[W; N]; N], r: usize, last: W, into: &mut [W])
+    requires fits { (length into.old ≤ N) × (r < N) }
+    requires small { (p : ℕ) → p < length into.old → W.size (cell W.meaning W.absent edges.now p r) + W.size (W.meaning last) ≤ W.limit }
+    ensures { (p : ℕ) → p < length into.old → at W.meaning W.absent into.new p ≡ W.chosen (at W.meaning W.absent into.old p) (W.joined (cell W.meaning W.absent edges.now p r) (W.meaning last)) }
 {
-    for p in 0..n {
-        into[p] = weight_at(row, p);
-    }
-}
-
-/// Chooses each of the first n weights of `into` with the way by an edge to r and then by `last`.
-fn prepend<W: Weight, const N: usize>(
-    edges: &[[W; N]; N],
-    r: usize,
-    last: W,
-    into: &mut [W; N],
-    n: usize,
-)
-    requires fits { (n ≤ N) × (r < n) }
-    requires small { (p : ℕ) → p < n → W.size (cell W.meaning W.absent edges.now p r) + W.size (W.meaning last) ≤ W.limit }
-    ensures here { (p : ℕ) → p < n → at W.meaning W.absent into.new p ≡ W.chosen (at W.meaning W.absent into.old p) (W.joined (cell W.meaning W.absent edges.now p r) (W.meaning last)) }
-    ensures beyond { BeyondRow W.absent n into.old into.new }
-{
-    for p in 0..n {
-        into[p] = into[p].choose(weight_at(&edges[p], r).join(last));
+    // An index: a column of `edges` is read.
+    for (p, weight) in into.iter_mut().enumerate() {
+        *weight = weight.choose(edges[p][r].join(last));
     }
 }
 
@@ -43,10 +25,10 @@ fn lengthen<W: Weight, const N: usize>(edges: &[[W; N]; N], best: &mut [W; N], n
     ensures beyond { BeyondRow W.absent n best.old best.new }
 {
     let shorter = *best;
-    for r in 0..n {
-        let last = weight_at(&shorter, r);
+    let best = &mut best[..n];
+    for (r, last) in shorter[..n].iter().enumerate() {
         if !last.is_absent() {
-            prepend(edges, r, last, best, n);
+            prepend(edges, r, *last, best);
         }
     }
 }
@@ -66,8 +48,9 @@ pub fn best_walks_to<W: Weight, const N: usize>(
     ensures sized { (m : ℕ) → Small W.size (cell W.meaning W.absent edges.now) n m → SmallRow W.size (at W.meaning W.absent last.now) n m → SmallRow W.size (at W.meaning W.absent out.new) n (k * m) }
     ensures beyond { BeyondRow W.absent n out.old out.new }
 {
-    copy_row(last, out, n);
-    for j in 1..k {
+    out[..n].copy_from_slice(&last[..n]);
+    // Named for the invariant, which speaks of the count.
+    for _j in 1..k {
         lengthen(edges, out, n);
     }
 }

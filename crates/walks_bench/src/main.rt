@@ -13,7 +13,6 @@ use std::time::Instant;
 use walks::closure::best_walks;
 use walks::minutes::Minutes;
 use walks::plain_wait::PlainWait;
-use walks::table::{put_weight, weight_at};
 use walks::target::best_walks_to;
 use walks::weight::Weight;
 
@@ -31,29 +30,26 @@ const ROUNDS: usize = 1000;
 fn fill<W: Sample>(table: &mut [[W; POINTS]; POINTS], seed: usize)
     ensures { Small W.Weight.size (cell W.Weight.meaning W.Weight.absent table.new) 32 1440 }
 {
-    for p in 0..POINTS {
-        for q in 0..POINTS {
+    for (p, row) in table.iter_mut().enumerate() {
+        for (q, weight) in row.iter_mut().enumerate() {
             let number = seed
                 .wrapping_mul(1024)
                 .wrapping_add(p * 32 + q)
                 .wrapping_mul(2_654_435_761);
-            put_weight(table, p, q, W::draw(number));
+            *weight = W::draw(number);
         }
     }
 }
 
-/// The sum of a table's scores.
-fn total<W: Sample>(table: &[[W; POINTS]; POINTS]) -> i64 {
-    let mut sum: i64 = 0;
-    for p in 0..POINTS {
-        for q in 0..POINTS {
-            sum = sum.wrapping_add(weight_at(&table[p], q).score());
-        }
-    }
-    sum
+/// The sum of the scores of some weights.
+fn total<W: Sample>(weights: &[W]) -> i64 {
+    weights
+        .iter()
+        .fold(0i64, |sum, weight| sum.wrapping_add(weight.score()))
 }
 
 /// Closes one table after another, and adds up the scores.
+// The bound of weights is a clause: it is a fact of the kind of weight, and of no table.
 fn close_tables<W: Sample>(
     edges: &mut [[W; POINTS]; POINTS],
     out: &mut [[W; POINTS]; POINTS],
@@ -65,7 +61,9 @@ fn close_tables<W: Sample>(
     for seed in 0..ROUNDS {
         fill(edges, seed);
         best_walks(edges, out, scratch, POINTS, DOUBLINGS);
-        sum = sum.wrapping_add(total(out));
+        sum = out
+            .iter()
+            .fold(sum, |sum, row| sum.wrapping_add(total(row)));
     }
     sum
 }
@@ -79,9 +77,7 @@ fn reach_targets<W: Sample>(edges: &mut [[W; POINTS]; POINTS], out: &mut [W; POI
         fill(edges, seed);
         let last = edges[0];
         best_walks_to(edges, &last, out, POINTS, EDGES);
-        for p in 0..POINTS {
-            sum = sum.wrapping_add(weight_at(out, p).score());
-        }
+        sum = sum.wrapping_add(total(out));
     }
     sum
 }
@@ -93,26 +89,32 @@ fn report(rt: &HostRuntime, name: &str, joins: usize, sum: i64, start: Instant) 
     eprintln!(rt; "{name}: {} ms", time.as_millis())
 }
 
-fn main(rt: HostRuntime) -> io::Result<()> {
+/// Times both searches at one kind of weight, in tables that are absent at first.
+fn time_kind<W: Sample>(
+    rt: &HostRuntime,
+    absent: &[[W; POINTS]; POINTS],
+    between_all: &str,
+    to_one: &str,
+) -> io::Result<()>
+    requires { 1440 ≤ W.Weight.limit / 32 }
+{
+    let mut edges = *absent;
+    let mut out = *absent;
+    let mut scratch = *absent;
+    let start = Instant::now(rt)?;
+    let sum = close_tables(&mut edges, &mut out, &mut scratch);
     // Where no weight is absent, no way is left out.
-    let all = POINTS * POINTS * POINTS * DOUBLINGS;
-    let one = POINTS * POINTS * (EDGES - 1);
-    let mut edges = [[Minutes::absent(); POINTS]; POINTS];
-    let mut out = edges;
-    let mut scratch = edges;
-    let start = Instant::now(&rt)?;
-    let sum = close_tables(&mut edges, &mut out, &mut scratch);
-    report(&rt, "minutes", all, sum, start)?;
-    let start = Instant::now(&rt)?;
+    let joins = POINTS * POINTS * POINTS * DOUBLINGS;
+    report(rt, between_all, joins, sum, start)?;
+    let start = Instant::now(rt)?;
     let sum = reach_targets(&mut edges, &mut out[0]);
-    report(&rt, "minutes to one target", one, sum, start)?;
-    let mut edges = [[PlainWait::absent(); POINTS]; POINTS];
-    let mut out = edges;
-    let mut scratch = edges;
-    let start = Instant::now(&rt)?;
-    let sum = close_tables(&mut edges, &mut out, &mut scratch);
-    report(&rt, "pairs", all, sum, start)?;
-    let start = Instant::now(&rt)?;
-    let sum = reach_targets(&mut edges, &mut out[0]);
-    report(&rt, "pairs to one target", one, sum, start)
+    let joins = POINTS * POINTS * (EDGES - 1);
+    report(rt, to_one, joins, sum, start)
+}
+
+fn main(rt: HostRuntime) -> io::Result<()> {
+    let minutes = [[Minutes::absent(); POINTS]; POINTS];
+    let pairs = [[PlainWait::absent(); POINTS]; POINTS];
+    time_kind(&rt, &minutes, "minutes", "minutes to one target")?;
+    time_kind(&rt, &pairs, "pairs", "pairs to one target")
 }

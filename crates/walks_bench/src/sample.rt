@@ -21,10 +21,7 @@ impl Sample for Minutes {
     }
 
     fn score(self) -> i64 {
-        match self.get() {
-            Some(x) => x as i64,
-            None => 0,
-        }
+        self.get().map_or(0, i64::from)
     }
 }
 

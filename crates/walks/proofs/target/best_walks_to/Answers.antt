@@ -1,4 +1,5 @@
-use Rattle.std.proofs.Common.{◌≡◌, ℕ, ◌+◌, ◌*◌, ◌<◌, List, sym, refl, ap, ◌∙◌, one-mul, arith, rules}
+use Rattle.std.proofs.Common.{◌≡◌, ℕ, ◌+◌, ◌*◌, ◌<◌, List, get_or, sym, refl, ap, ◌∙◌, one-mul, arith, rules}
+use Rattle.std.proofs.lemmas.List.{get_or_append_left, get_or-take}
 use Rattle.walks.specs.Tables.{at, cell, Small, SmallRow}
 use Rattle.walks.specs.Walks.{Best, toward}
 use Rattle.walks.proofs.Walking.{Laws, best_same, best_one, best_chain, best_size, edges_fit, toward_other, toward_last, toward_small, toward_small_last}
@@ -26,7 +27,11 @@ module _ (g : given.Over) where
 pub loop-j-init : goal.loop-j-init
 loop-j-init g c = (
   λ p h. best_same (laws_of g) _ _ refl
-      (ap g.W.Weight.meaning (c.copy_row.ensures.here p h) ∙ sym (toward_last c.args.n (between g c.args.edges.now) (last g c.args.last.now) p))
+      (ap g.W.Weight.meaning
+      (get_or_append_left c.copy_from_slice.new.self _ g.W.Weight.absent p (omega arith)
+      ∙ ap (λ row. get_or row p g.W.Weight.absent) c.copy_from_slice.ensures.after
+      ∙ get_or-take c.args.n c.args.last.now p g.W.Weight.absent h)
+      ∙ sym (toward_last c.args.n (between g c.args.edges.now) (last g c.args.last.now) p))
       (best_one (laws_of g) _ _ p c.args.n),
   λ p h. refl,
 )
@@ -41,7 +46,7 @@ sized g rows row out n k best m small small_last p i =
 
 pub lengthen-requires : goal.lengthen-requires
 lengthen-requires g c =
-    let j = c.loop-j.j in
+    let j = c.loop-j._j in
     let small = sized g _ _ _ _ j c.loop-j.invariant.0 _ c.requires.small.0 c.requires.small.1 in (
       search rules,
       (
@@ -55,7 +60,7 @@ lengthen-requires g c =
 
 pub loop-j-preserved : goal.loop-j-preserved
 loop-j-preserved g c =
-    let j = c.loop-j.j in
+    let j = c.loop-j._j in
     let edges = between g c.args.edges.now in
     let ends = last g c.args.last.now in (
       λ p h.
@@ -66,11 +71,7 @@ loop-j-preserved g c =
       λ p h. c.lengthen.ensures.beyond p h ∙ c.loop-j.invariant.1 p h,
     )
 
-pub returns : goal.returns
-returns g c =
-    let done : c.args.k ≡ c.loop-j.j = omega arith in
-    record {
-      best = λ p h. best_same (laws_of g) _ _ done refl (c.loop-j.invariant.0 p h);
-      sized = rw done (sized g _ _ _ _ c.loop-j.j c.loop-j.invariant.0);
-      beyond = λ p h. c.loop-j.invariant.1 p h ∙ c.copy_row.ensures.beyond p h;
-    }
+pub returns-clause-sized : goal.returns-clause-sized
+returns-clause-sized g c =
+    let done : c.args.k ≡ c.loop-j._j = omega arith in
+    rw done (sized g _ _ _ _ c.loop-j._j c.loop-j.invariant.0)

@@ -1,5 +1,5 @@
 use Rattle.std.proofs.Common.{◌≡◌, ℕ, ◌<◌}
-use Rattle.walks.specs.Tables.{at, cell, BeyondRow}
+use Rattle.walks.specs.Tables.{at, cell}
 use Rattle.walks.specs.Walks.{through}
 use Rattle.walks.proofs.target.lengthen.Given as goal
 
@@ -7,6 +7,5 @@ use Rattle.walks.proofs.target.lengthen.Given as goal
 abbrev pub invariant-loop-r : goal.invariant-loop-r
 invariant-loop-r g l =
     let m = g.W.Weight in
-    let best = at m.meaning m.absent l.initial.best in
-    ((p : ℕ) → p < l.n → at m.meaning m.absent l.best p ≡ through m.joined m.chosen (best p) (cell m.meaning m.absent l.edges p) best l.r)
-    × BeyondRow m.absent l.n l.initial.best l.best
+    let best = at m.meaning m.absent l.fn.best in
+    (p : ℕ) → p < l.n → at m.meaning m.absent l.best p ≡ through m.joined m.chosen (best p) (cell m.meaning m.absent l.edges p) best l.r
