@@ -5,6 +5,5 @@ pub mod Endings
 pub mod Makes
 pub mod Rests
 pub mod Eithers
-pub mod Views
 pub mod Rested
 pub mod Parts

@@ -1,8 +1,9 @@
 -- What a resting kitchen tells of the spans below it.
-use Rattle.std.specs.Prelude.{◌≡◌, ℕ, ◌+◌, ◌-◌, ◌<◌, min, cond, List, [], ◌∷◌, ◌++◌, length, take, drop, replicate, nat_lt, slice_index, slice_index_or}
+use Rattle.std.specs.Prelude.{◌≡◌, ℕ, ◌+◌, ◌-◌, ◌<◌, min, cond, List, [], ◌∷◌, ◌++◌, length, take, drop, replicate, nat_lt, slice_index_or}
 use Rattle.kitchen.specs.declared.track.Track.{Track}
 use Rattle.kitchen.specs.declared.track.Status.{Status}
 use Rattle.kitchen.specs.declared.track.Status.TheVariants.{Cold, On, Done}
+use Rattle.kitchen.specs.declared.rest.Rest.{Rest}
 use Rattle.kitchen.specs.Tracks.{no_track, is_done}
 
 -- the rest that counts for a span of this most: no more than 240, and cut so that the span lasts at most 10,000
@@ -19,25 +20,37 @@ told_status rest c Cold = Cold
 told_status rest c (On e) = On e
 told_status rest c (Done d) = cond (nat_lt c rest) (On (d + c)) (Done (d + rest))
 
--- how a span is told
-abbrev pub told : ℕ → ℕ → Track → Track
-told rest c t =
-    let b = rested_bounds rest (t.least, t.most) in
-    record { least = b.0; most = b.1; status = told_status (rest_for rest t.most) c t.status }
+-- how a span is told under a rest
+abbrev pub told : Rest → Track → Track
+told r t =
+    let b = rested_bounds r.minutes (t.least, t.most) in
+    record { least = b.0; most = b.1; status = told_status (rest_for r.minutes t.most) r.count t.status }
 
--- how all spans are told, each by its rest and its count; a missing rest or count is 0
-abbrev pub rested : List Track → List ℕ → List ℕ → List Track
-rested [] rests counts = []
-rested (t ∷ ts) rests counts = told (slice_index rests 0) (slice_index counts 0) t ∷ rested ts (drop 1 rests) (drop 1 counts)
+-- what stands past the last rest
+abbrev pub no_rest : Rest
+no_rest = record { minutes = 0; count = 0 }
+
+-- a rest of this many minutes, with no advance counted yet
+abbrev pub fresh : ℕ → Rest
+fresh minutes = record { minutes = minutes; count = 0 }
+
+-- how all spans are told, each under its rest; a missing rest is 0
+abbrev pub rested : List Track → List Rest → List Track
+rested [] rests = []
+rested (t ∷ ts) rests = told (slice_index_or rests 0 no_rest) t ∷ rested ts (drop 1 rests)
 
 -- one advance more since a span was first seen done, if it was done before that advance; more than 240 are not counted
 abbrev pub count_next : Status → ℕ → ℕ
 count_next before c = cond (is_done before) (min (c + 1) 240) 0
 
--- the counts after an advance, by the spans and the counts before it
-pub record Counted (ts : List Track) (counts after : List ℕ) : Type 0 where
+-- a rest after an advance, by the status of its span before it
+abbrev pub rest_next : Status → Rest → Rest
+rest_next before r = record { minutes = r.minutes; count = count_next before r.count }
+
+-- the rests after an advance, by the spans and the rests before it
+pub record Counted (ts : List Track) (rests after : List Rest) : Type 0 where
   pub long : length after ≡ 8
-  pub each : (i : ℕ) → i < 8 → slice_index after i ≡ count_next (slice_index_or ts i no_track).status (slice_index counts i)
+  pub each : (i : ℕ) → i < 8 → slice_index_or after i no_rest ≡ rest_next (slice_index_or ts i no_track).status (slice_index_or rests i no_rest)
 
 -- the rests of eight spans, where a missing one is 0
 abbrev pub first_eight : List ℕ → List ℕ

@@ -1,13 +1,12 @@
 //! A contrary kitchen: just after a start it ends spans as early as it may, otherwise as late as it may.
 ghost use Rattle.std.specs.Prelude.{◌≡◌, false, map};
 ghost use Rattle.kitchen.specs.Tracks.{cold};
+ghost use Rattle.kitchen.specs.Kitchens.{Lawful};
 ghost use Rattle.kitchen.specs.Endings.{next_track, noticed};
 ghost use Rattle.kitchen.specs.Makes.{Made};
-ghost use Rattle.kitchen.specs.Rows.{row_spans};
-ghost use Rattle.kitchen.specs.Views.{row_lawful};
 
 use crate::interface::Kitchen;
-use crate::row::{MAX_SPANS, Row};
+use crate::row::Row;
 use crate::track::Status;
 use rules::refusal::Refusal;
 
@@ -16,23 +15,18 @@ use rules::refusal::Refusal;
 #[derive(Clone, Copy)]
 pub struct Contrary {
     row: Row,
-    // a span was started since the last advance
+    // a span was started since the last advance; nothing else decides how spans end
     started: bool,
+    ghost lawful: { Lawful row },
 }
 
 impl Contrary {
     /// A kitchen with a cold span for each of up to eight bounds, least and most.
+    #[tactic(auto, using(crate::proofs::Made::lawful_made))]
     pub fn new(bounds: &[(u16, u16)]) -> Result<Contrary, Refusal>
-        ensures { Made bounds.now (λ k. (row_spans k.row ≡ map cold bounds.now) × (k.started ≡ false)) result }
+        ensures { Made bounds.now (λ k. (k.row ≡ map cold bounds.now) × (k.started ≡ false)) result }
     {
-        if bounds.len() > MAX_SPANS {
-            return Err(Refusal::SpansFull);
-        }
-        let mut row = Row::empty();
-        for pair in bounds {
-            let (least, most) = *pair;
-            row.push(least, most)?;
-        }
+        let row = Row::try_from(bounds)?;
         Ok(Contrary {
             row,
             started: false,
@@ -40,16 +34,17 @@ impl Contrary {
     }
 }
 
+// As `Noted` passes calls on to its row: each is a line, and a trait between them would say its clauses again.
 impl Kitchen for Contrary {
-    ghost spans = { λ k. row_spans k.row };
+    ghost spans = { λ k. k.row };
 
     // An accepted start is noticed.
     ghost starts = { λ k _ r m. m.started ≡ noticed r k.started };
 
     // After a start all spans that may end do, otherwise those that must; the start is forgotten.
-    ghost advances = { λ k m. (row_spans m.row ≡ map (next_track k.started) (row_spans k.row)) × (m.started ≡ false) };
+    ghost advances = { λ k m. (m.row ≡ map (next_track k.started) k.row) × (m.started ≡ false) };
 
-    ghost keeps = { λ k. row_lawful k.row };
+    ghost keeps = { λ k. k.lawful };
 
     fn count(&self) -> usize {
         self.row.len()
@@ -69,6 +64,7 @@ impl Kitchen for Contrary {
         Ok(())
     }
 
+    #[tactic(auto, using(crate::proofs::Endings::lawful_next))]
     fn advance(&mut self) {
         self.row.advance(self.started);
         self.started = false;

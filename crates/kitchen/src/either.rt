@@ -7,10 +7,21 @@ use crate::track::Status;
 use rules::refusal::Refusal;
 
 /// A kitchen of the first or of the second kind; it is all that this one is.
+// The kit's `Either` would need the same impl, and the module another name: no module is called as a library below it.
 #[derive(Drop)]
 pub enum Either<A: Kitchen, B: Kitchen> {
     First(A),
     Second(B),
+}
+
+/// The same expression of whichever kitchen it is.
+macro_rules! of_one {
+    ($either:expr, $kitchen:ident => $result:expr) => {
+        match $either {
+            Either::First($kitchen) => $result,
+            Either::Second($kitchen) => $result,
+        }
+    };
 }
 
 impl<A: Kitchen, B: Kitchen> Kitchen for Either<A, B> {
@@ -23,37 +34,22 @@ impl<A: Kitchen, B: Kitchen> Kitchen for Either<A, B> {
     ghost keeps = { elim [ First a ↦ A.Kitchen.keeps a | Second b ↦ B.Kitchen.keeps b ] };
 
     fn count(&self) -> usize {
-        match self {
-            Either::First(k) => k.count(),
-            Either::Second(k) => k.count(),
-        }
+        of_one!(self, kitchen => kitchen.count())
     }
 
     fn bounds(&self, span: usize) -> Result<(u16, u16), Refusal> {
-        match self {
-            Either::First(k) => k.bounds(span),
-            Either::Second(k) => k.bounds(span),
-        }
+        of_one!(self, kitchen => kitchen.bounds(span))
     }
 
     fn status(&self, span: usize) -> Result<Status, Refusal> {
-        match self {
-            Either::First(k) => k.status(span),
-            Either::Second(k) => k.status(span),
-        }
+        of_one!(self, kitchen => kitchen.status(span))
     }
 
     fn start(&mut self, span: usize) -> Result<(), Refusal> {
-        match self {
-            Either::First(k) => k.start(span),
-            Either::Second(k) => k.start(span),
-        }
+        of_one!(self, kitchen => kitchen.start(span))
     }
 
     fn advance(&mut self) {
-        match self {
-            Either::First(k) => k.advance(),
-            Either::Second(k) => k.advance(),
-        }
+        of_one!(self, kitchen => kitchen.advance())
     }
 }

@@ -1,6 +1,7 @@
 //! Kitchens: what starts spans and decides when they end.
 #![tactic(auto)]
 
+mod bounded;
 pub mod contrary;
 pub mod either;
 pub mod interface;
@@ -8,7 +9,6 @@ pub mod noted;
 mod rest;
 pub mod resting;
 mod row;
-mod rows;
 mod statuses;
 #[cfg(test)]
 mod tests;

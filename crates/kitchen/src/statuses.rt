@@ -10,10 +10,7 @@ impl Status {
     pub fn is_done(self) -> bool
         ensures { result ≡ is_done self }
     {
-        match self {
-            Status::Done(_) => true,
-            Status::Cold | Status::On(_) => false,
-        }
+        matches!(self, Status::Done(_))
     }
 }
 

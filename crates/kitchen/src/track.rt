@@ -1,9 +1,10 @@
 //! One span as a kitchen has it: its bounds, and how far it is.
 
 /// How far a span is.
-#[derive(Clone, Copy, PartialEq, Eq, Debug)]
+#[derive(Clone, Copy, PartialEq, Eq, Debug, Default)]
 pub enum Status {
     /// Not started.
+    #[default]
     Cold,
     /// Started this many minutes ago, and not ended.
     On(u16),
@@ -12,7 +13,7 @@ pub enum Status {
 }
 
 /// The bounds of a span in minutes, and its status.
-#[derive(Clone, Copy)]
+#[derive(Clone, Copy, PartialEq, Eq, Debug, Default)]
 pub struct Track {
     pub least: u16,
     pub most: u16,

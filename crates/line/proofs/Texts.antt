@@ -1,8 +1,7 @@
--- Texts at the front of a buffer, and the name in a line.
-use Rattle.std.proofs.Common.{◌≡◌, ℕ, ◌+◌, ◌<◌, ◌≤◌, min, List, [], ◌∷◌, ◌++◌, length, take, drop, set, sym, refl, ap, ◌∙◌, ⊎_elim, arith}
-use Rattle.std.proofs.lemmas.Bool.{cases_lt}
-use Rattle.std.proofs.lemmas.List.{append_assoc, length-take, take_all, take_at, drop_at, drop-drop, drop_more, set_at}
-use Rattle.line.specs.Line.{shown}
+-- Texts at the front of a buffer.
+use Rattle.std.proofs.Common.{◌≡◌, ℕ, ◌+◌, ◌-◌, ◌<◌, ◌≤◌, List, [], ◌∷◌, ◌++◌, length, take, drop, set, sym, refl, ap, ◌∙◌, arith, length-append}
+use borrow.Rule.Slice.PartMut.{put_mid}
+use Rattle.std.proofs.lemmas.List.{append_assoc, take_at, drop_at, drop-drop, drop_more, set_at}
 
 -- a text with another behind it
 pub more_text : (text more b c d : List ℕ) (n m : ℕ) → c ≡ text ++ drop n b → length text ≡ n → m ≡ n + length more → d ≡ take n c ++ (more ++ drop m c) → d ≡ (text ++ more) ++ drop m b
@@ -19,18 +18,19 @@ push_text text b c n y e l lt =
     ∙ set_at text _ (drop (n + 1) b) y n l
     ∙ sym (append_assoc text (y ∷ []) (drop (n + 1) b))
 
-pub shown_empty : (name : List ℕ) → length name ≡ 0 → shown name ≡ 45 ∷ []
-shown_empty [] h = refl
-shown_empty (b ∷ bs) h = absurd (omega arith)
+put_at : (c s : List ℕ) (n : ℕ) → put_mid n (length s) c s ≡ take n c ++ (s ++ drop (n + length s) c)
+put_at c s n = ap (λ z. take n c ++ (s ++ z)) (drop-drop (length s) n c)
 
-pub shown_front : (name : List ℕ) (n : ℕ) → 0 < length name → n ≡ min (length name) 16 → shown name ≡ take n name
-shown_front [] n h e = absurd (omega arith)
-shown_front (b ∷ bs) n h e =
-    ⊎_elim
-    (λ lt. let same : 16 ≡ n = omega arith in ap (λ k. take k (b ∷ bs)) same)
-    (λ le. take_all 16 (b ∷ bs) le ∙ sym (take_all n (b ∷ bs) (omega arith)))
-    (cases_lt 16 (length (b ∷ bs)))
-
-pub shown_short : (name : List ℕ) → length (shown name) ≤ 16
-shown_short [] = omega arith
-shown_short (b ∷ bs) = omega (arith, length-take 16 (b ∷ bs))
+-- a head and a name, each copied to its place, and a newline behind them
+pub copied_text : (h s b r x y : List ℕ) → r ≡ s → x ≡ h → y ≡ r → length h ≡ 10 → length r ≤ 16 → 27 ≤ length b → set (put_mid 10 (10 + length r - 10) (x ++ drop 10 b) y) (10 + length r) 10 ≡ (h ++ (s ++ (10 ∷ []))) ++ drop (length (h ++ (s ++ (10 ∷ [])))) b
+copied_text h s b r x y e f g lh few long =
+    let n : length r ≡ length s = ap length e in
+    let k : 10 + length r - 10 ≡ length s = omega (arith, n) in
+    let c = h ++ drop 10 b in
+    let named = more_text h s b c _ 10 (10 + length s) refl lh refl (put_at c s 10) in
+    let ended = push_text (h ++ s) b _ (10 + length s) 10 named (omega (arith, length-append h s)) (omega arith) in
+    let all : 10 + length s + 1 ≡ length (h ++ (s ++ (10 ∷ []))) = omega (arith, length-append h (s ++ (10 ∷ [])), length-append s (10 ∷ [])) in
+    (λ i. set (put_mid 10 (k i) (f i ++ drop 10 b) ((g ∙ e) i)) (10 + n i) 10)
+    ∙ ended
+    ∙ ap (λ t. t ++ drop (10 + length s + 1) b) (append_assoc h s (10 ∷ []))
+    ∙ ap (λ m. (h ++ (s ++ (10 ∷ []))) ++ drop m b) all

@@ -1,5 +1,5 @@
 //! Writes the line of an event into the caller's buffer.
-ghost use Rattle.std.specs.Prelude.{◌≡◌, ◌+◌, ◌%◌, ◌≤◌, ◌++◌, length, take, drop};
+ghost use Rattle.std.specs.Prelude.{◌≡◌, ◌≤◌, length};
 ghost use Rattle.line.specs.Line.{digit, letter_of, head, shown, line, Written};
 
 use crate::event::Event;
@@ -16,6 +16,7 @@ const NAME_BYTES: usize = 16;
 
 impl Event {
     /// The letter that stands for the event in its line.
+    // A byte, as a line is bytes.
     pub fn letter(self) -> u8
         ensures { result ≡ letter_of self }
     {
@@ -33,42 +34,38 @@ fn last_digit(number: u16) -> u8
     b'0' + (number % 10) as u8
 }
 
-/// Writes what comes before the name.
-fn write_head(buffer: &mut [u8], minute: u16, event: Event, point: u8)
-    requires { 10 ≤ length buffer.old }
-    ensures { buffer.new ≡ head minute event point ++ drop 10 buffer.old }
+/// What comes before the name.
+fn head_of(minute: u16, event: Event, point: u8) -> [u8; HEAD_BYTES]
+    ensures { result ≡ head minute event point }
 {
     let point = u16::from(point);
-    buffer[0] = last_digit(minute / 1000);
-    buffer[1] = last_digit(minute / 100);
-    buffer[2] = last_digit(minute / 10);
-    buffer[3] = last_digit(minute);
-    buffer[4] = b' ';
-    buffer[5] = event.letter();
-    buffer[6] = b' ';
-    buffer[7] = last_digit(point / 10);
-    buffer[8] = last_digit(point);
-    buffer[9] = b' ';
+    [
+        last_digit(minute / 1000),
+        last_digit(minute / 100),
+        last_digit(minute / 10),
+        last_digit(minute),
+        b' ',
+        event.letter(),
+        b' ',
+        last_digit(point / 10),
+        last_digit(point),
+        b' ',
+    ]
 }
 
-/// Writes a name from a place on, or a dash for an empty one, and answers where it ends.
-fn write_name(buffer: &mut [u8], from: usize, name: &[u8]) -> usize
-    requires { from + 16 ≤ length buffer.old }
-    ensures end { result ≡ from + length (shown name.now) }
-    ensures bytes { buffer.new ≡ take from buffer.old ++ (shown name.now ++ drop result buffer.old) }
+/// A name as far as it is shown, or a dash for an empty one.
+fn shown_of(name: &[u8]) -> &[u8]
+    ensures bytes { result.now ≡ shown name.now }
+    ensures short { length result.now ≤ 16 }
 {
     if name.is_empty() {
-        buffer[from] = b'-';
-        return from + 1;
+        return b"-";
     }
-    let count = name.len().min(NAME_BYTES);
-    for i in 0..count {
-        buffer[from + i] = name[i];
-    }
-    from + count
+    &name[..name.len().min(NAME_BYTES)]
 }
 
 /// Writes the line of an event to the front of the buffer, and answers its length.
+// Copied and not formatted: a name may be any bytes, and `write!` takes text.
 pub fn write_line(
     buffer: &mut [u8],
     minute: u16,
@@ -81,8 +78,10 @@ pub fn write_line(
     if buffer.len() < LINE_BYTES {
         return Err(Refusal::ShortBuffer);
     }
-    write_head(buffer, minute, event, point);
-    let end = write_name(buffer, HEAD_BYTES, name);
+    let name = shown_of(name);
+    let end = HEAD_BYTES + name.len();
+    buffer[..HEAD_BYTES].copy_from_slice(&head_of(minute, event, point));
+    buffer[HEAD_BYTES..end].copy_from_slice(name);
     buffer[end] = b'\n';
     Ok(end + 1)
 }

@@ -1,19 +1,14 @@
-use Rattle.std.proofs.Common.{◌<◌, set, sym, refl, ap, ◌∙◌, inr, arith}
+use Rattle.std.proofs.Common.{◌<◌, length, set, take, ap, ◌∙◌, sym, arith}
 use Rattle.std.proofs.Math.Seq.{take-set-lt}
-use Rattle.kitchen.specs.Rows.{row_spans}
+use Rattle.std.proofs.lemmas.List.{get_or-take, length-take}
+use Rattle.kitchen.specs.Tracks.{no_track}
 use Rattle.kitchen.specs.Kitchens.{begun}
-use Rattle.kitchen.specs.Views.{spans_long, spans_at}
 use Rattle.kitchen.proofs.row.Row.start.Goals as goal
-
-pub returns-in_default : goal.returns-in_default
-returns-in_default c =
-    let n = spans_long c.args.self.now in
-    let at = spans_at c.args.self.now c.args.span (omega arith) in
-    (inr (omega arith, (λ e. c.in_default.not-Cold (sym (ap (λ t. t.status) at) ∙ e)), refl), refl)
 
 pub returns : goal.returns
 returns c =
-    let n = spans_long c.args.self.now in
-    let lt : c.args.span < c.args.self.now.count = omega arith in
-    let at = spans_at c.args.self.now c.args.span lt in
-    (omega arith, ap (λ t. t.status) at ∙ c.in-Cold.is, take-set-lt _ _ _ _ lt ∙ ap (λ t. set (row_spans c.args.self.now) c.args.span (begun t)) (sym at))
+    let e = c.in_ok-status.ensures in
+    let r = c.self.inside in
+    let i = c.args.span in
+    let lt : i < r.count = omega (arith, e.0, ap length c.self.view_is, length-take r.count r.tracks) in
+    (e.0, sym e.1 ∙ c.in-Cold.is, rw (← c.self.view_is) (take-set-lt r.count r.tracks i _ lt ∙ ap (λ t. set (take r.count r.tracks) i (begun t)) (sym (get_or-take r.count r.tracks i no_track lt))))
