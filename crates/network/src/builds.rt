@@ -20,6 +20,7 @@ const MAX_SPANS: usize = 8;
 
 const MAX_TIES: usize = 96;
 
+// What stands in a place that holds no span or tie yet. No default of theirs: a span lasts a minute or more, and a tie joins two points.
 const NO_SPAN: Span = Span {
     start: 0,
     finish: 0,

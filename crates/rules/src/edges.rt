@@ -25,6 +25,7 @@ pub struct Edge {
 
 /// A step of a list: its letter's code, the numbers of a left and a right edge, and the edge it makes.
 /// (In the field: a reduction.)
+// The letter is a number, as lists keep it, so that a list with a letter that names no rule can be read.
 #[derive(Clone, Copy, PartialEq, Eq, Debug)]
 pub struct Step {
     pub letter: u8,

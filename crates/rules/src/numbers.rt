@@ -4,6 +4,7 @@ ghost use Rattle.rules.specs.Refusals.{number_of};
 
 use crate::refusal::Refusal;
 
+// A method and no conversion: the number does not say at which place a step is unlawful.
 impl Refusal {
     /// The number that stands for the refusal.
     pub fn number(self) -> u8

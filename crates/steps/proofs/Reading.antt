@@ -123,6 +123,12 @@ module _ (card : Card) (es : List Edge) (s : Step) (made : Option Edge) (m : Mak
   unlawful_if_none q =
       (λ t. absurd (false≢true t), λ law. let o = m.only s.makes law in let z : ◌≡◌ {A = ℕ} 0 1 = cc in absurd (omega arith))
 
+  pub lawful_when : (b : Bool) → (made ≡ None → b ≡ false) → ((e : Edge) → made ≡ Some e → Decides b (e ≡ s.makes)) → Decides b (LawfulStep card es s)
+  lawful_when b none some = by_cases made refl where
+    by_cases : (o : Option Edge) → made ≡ o → Decides b (LawfulStep card es s)
+    by_cases None q = subst (λ x. Decides x (LawfulStep card es s)) (sym (none q)) (unlawful_if_none q)
+    by_cases (Some e) q = let d = some e q in lawful_if_same b e q d.0 d.1
+
 -- whether a list closes
 pub closing_if_loop : (steps : List Step) (b : Bool) → 0 < length steps
     → Decides b (((step_at steps (length steps - 1)).makes.source ≡ (step_at steps (length steps - 1)).makes.target) × ((step_at steps (length steps - 1)).makes.weight <ℤ pos 0))

@@ -26,7 +26,7 @@ fn point_edge(network: &Network, number: usize) -> Edge
             kind: Kind::Plain,
             source: 0,
             target: point,
-            weight: network.content.horizon as i32,
+            weight: i32::from(network.horizon()),
         }
     } else {
         Edge {
@@ -44,31 +44,32 @@ fn span_edge(network: &Network, number: usize) -> Edge
     ensures { result ≡ slice_index_or (of_span (model network.now.content) (number / 4)) (number % 4) no_edge }
 {
     let s = number / 4;
-    let span = network.content.spans[s];
+    let span = network.spans()[s];
+    // By remainder: the rules number the four edges of a span in this order.
     match number % 4 {
         0 => Edge {
             kind: Kind::Plain,
             source: span.start,
             target: span.finish,
-            weight: span.most as i32,
+            weight: i32::from(span.most),
         },
         1 => Edge {
             kind: Kind::Plain,
             source: span.finish,
             target: span.start,
-            weight: -(span.least as i32),
+            weight: -i32::from(span.least),
         },
         2 => Edge {
             kind: Kind::Lower(s as u8),
             source: span.start,
             target: span.finish,
-            weight: span.least as i32,
+            weight: i32::from(span.least),
         },
         _ => Edge {
             kind: Kind::Wait(s as u8),
             source: span.finish,
             target: span.start,
-            weight: -(span.most as i32),
+            weight: -i32::from(span.most),
         },
     }
 }
@@ -91,6 +92,6 @@ pub fn given_edge(network: &Network, number: usize) -> Option<Edge>
         kind: Kind::Plain,
         source: tie.from,
         target: tie.to,
-        weight: tie.gap as i32,
+        weight: i32::from(tie.gap),
     })
 }

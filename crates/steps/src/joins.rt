@@ -7,6 +7,9 @@ ghost use Rattle.steps.specs.Makes.{ranged, chained, turned, by_n, by_u, by_l, b
 use network::network::Network;
 use rules::edges::{Edge, Kind};
 
+// Letters are numbers, as steps keep them.
+// Two edges and no struct of both: the rules are stated of a left and a right edge, and R and M use the left alone.
+
 /// The edge of this kind end to end, if the two meet and its weight is in range.
 fn chain(kind: Kind, left: Edge, right: Edge) -> Option<Edge>
     ensures { result ≡ chained kind left right }
@@ -14,7 +17,7 @@ fn chain(kind: Kind, left: Edge, right: Edge) -> Option<Edge>
     if left.target != right.source {
         return None;
     }
-    let weight = left.weight as i64 + right.weight as i64;
+    let weight = i64::from(left.weight) + i64::from(right.weight);
     if weight < -1_000_000 || weight > 1_000_000 {
         return None;
     }
@@ -82,7 +85,7 @@ fn lower_wait(left: Edge, right: Edge) -> Option<Edge>
 fn least_of(network: &Network, span: u8) -> u16
     ensures { result ≡ least_of (model network.now.content) span }
 {
-    network.span(span as usize).map_or(0, |span| span.least)
+    network.span(usize::from(span)).map_or(0, |span| span.least)
 }
 
 /// R: a wait of no more than the least of its span.
@@ -92,7 +95,7 @@ fn release(network: &Network, left: Edge) -> Option<Edge>
     let Kind::Wait(s) = left.kind else {
         return None;
     };
-    if left.weight < -(least_of(network, s) as i32) {
+    if left.weight < -i32::from(least_of(network, s)) {
         return None;
     }
     turn(Kind::Plain, left)

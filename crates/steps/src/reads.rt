@@ -10,6 +10,8 @@ use network::network::Network;
 use rules::edges::{Edge, Step};
 use rules::refusal::Refusal;
 
+// Letters are numbers, as steps keep them.
+
 /// The edge of this number where these steps have been made.
 fn edge_at(network: &Network, made: &[Step], number: u32) -> Option<Edge>
     ensures { result ≡ edge_at (all_known (model network.now.content) made.now) number }
@@ -55,10 +57,8 @@ pub fn next_edge(
 fn is_lawful(network: &Network, made: &[Step], step: Step) -> bool
     ensures { Decides result (LawfulStep (model network.now.content) (all_known (model network.now.content) made.now) step) }
 {
-    match next_edge(network, made, step.letter, step.left, step.right) {
-        Some(edge) => edge == step.makes,
-        None => false,
-    }
+    let next = next_edge(network, made, step.letter, step.left, step.right);
+    next.is_some_and(|edge| edge == step.makes)
 }
 
 /// Whether an edge leads from a point to itself and weighs less than 0.

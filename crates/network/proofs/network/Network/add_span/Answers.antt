@@ -1,8 +1,7 @@
-use Rattle.std.proofs.Common.{sym, ap, arith}
-use Rattle.rules.specs.Calls.{answered}
+use Rattle.std.proofs.Common.{arith}
 use Rattle.network.specs.Model.{model}
 use Rattle.network.proofs.Parts.{span_count_is}
-use Rattle.network.proofs.Growing.{passed, span_free, span_kept, model_span}
+use Rattle.network.proofs.Growing.{passed, span_free, span_kept}
 use Rattle.network.proofs.network.Network.add_span.Goals as goal
 
 pub bounds-self-at : goal.bounds-self-at
@@ -23,12 +22,4 @@ invariant_of-self c =
       rise = k.1.1.1.1.0;
       joined = k.1.1.1.1.1.0;
       near = k.1.1.1.1.1.1.0;
-    }
-
-pub returns : goal.returns
-returns c =
-    let free = passed _ _ c.check_span.ensures c.in_ok-check_span.was in
-    record {
-      answer = ap (λ f. answered f c.args.self.now.content.points) (sym free);
-      card = model_span c.args.self.now c.args.start c.args.least c.args.most free;
     }

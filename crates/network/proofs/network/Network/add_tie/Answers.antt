@@ -1,25 +1,10 @@
-use Rattle.std.proofs.Common.{arith}
-use Rattle.network.proofs.Growing.{passed, tie_kept, tie_full, tie_added}
+use Rattle.network.proofs.Growing.{passed, tie_full, tie_added}
 use Rattle.network.proofs.network.Network.add_tie.Goals as goal
 
 pub returns-then-at-ge-MAX_TIES : goal.returns-then-at-ge-MAX_TIES
 returns-then-at-ge-MAX_TIES c =
     let r = tie_full c.args.self.now c.args.tie (passed _ _ c.check_tie.ensures c.in_ok-check_tie.was) c.if-at-ge-MAX_TIES.true in
     record { answer = r.0; card = r.1 }
-
-pub invariant_of-self : goal.invariant_of-self
-invariant_of-self c =
-    let k = tie_kept c.args.self.now c.args.tie (passed _ _ c.check_tie.ensures c.in_ok-check_tie.was) (omega arith)
-    in
-    record {
-      counts = k.0;
-      lengths = k.1.0;
-      last = k.1.1.0;
-      lead = k.1.1.1.0;
-      rise = k.1.1.1.1.0;
-      joined = k.1.1.1.1.1.0;
-      near = k.1.1.1.1.1.1.0;
-    }
 
 pub returns : goal.returns
 returns c =
