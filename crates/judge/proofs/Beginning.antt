@@ -1,11 +1,13 @@
 -- How tables begin, and what they are worth once no rule lowers them.
-use Rattle.std.proofs.Common.{◌≡◌, ℕ, zero, suc, ◌<◌, ◌≢◌, pos, ◌+ℤ◌, ◌-ℤ◌, neg_ℤ, ◌≤ℤ◌, sym, refl, ap, ◌∙◌, subst, ⊎_elim, arith}
+use Rattle.std.proofs.Common.{◌≡◌, ℕ, zero, suc, ◌<◌, ◌≤◌, ◌≢◌, Bool, true, false, MatchBool, List, length, get_or, pos, ◌+ℤ◌, ◌-ℤ◌, neg_ℤ, ◌≤ℤ◌, sym, refl, ap, ◌∙◌, subst, ⊎_elim, arith}
 use Rattle.std.proofs.lemmas.Int.{ints}
+use Rattle.std.specs.List.{HoldsAt, AllWithin}
 use Rattle.std.proofs.lemmas.Bool.{cases_eq}
 use Rattle.std.proofs.lemmas.Bool.Decides.{nat_tests}
 use Rattle.rules.specs.declared.edges.Kind.TheVariants.{Plain, Wait, AllMost}
 use Rattle.rules.specs.declared.edges.Edge.{Edge}
-use Rattle.rules.specs.Card.{Card, WellMade, span_count, start_of, finish_of, most_of}
+use Rattle.rules.specs.declared.parts.Span.{Span}
+use Rattle.rules.specs.Card.{Card, no_span, WellMade, span_count, start_of, finish_of, most_of}
 use Rattle.rules.specs.Edges.{edge, given_late, given_early, given_wait, rule_n, rule_u, rule_m, rule_mw, rule_s, Derived, by_given, by_rule, InRange}
 use Rattle.rules.proofs.Derived.{derived_wider}
 use Rattle.rules.proofs.Closure.{closed_by}
@@ -64,6 +66,12 @@ module _ (n : Network) where
             (omega (arith, ints, most_in n s ls), omega (arith, ints, n.counts.0.1));
         negative = omega (arith, ints);
       }
+
+  -- whether every span is within the horizon tells which of the two holds
+  pub in_time_cases : (spans : List Span) (horizon : ℕ) (r : Bool) → spans ≡ card.spans → horizon ≡ card.horizon → MatchBool r (AllWithin (λ x. x.most ≤ horizon) spans 0 (length spans)) ((k : ℕ) × (k < length spans) × HoldsAt (λ x. horizon < x.most) spans k) → MatchBool r (InTime card) (Doomed card)
+  unfolding span_count most_of
+  in_time_cases spans horizon true e f all = λ s ls. omega (arith, f, all s no_span (omega arith) (omega (arith, ap length e)), ap (λ l. (get_or l s no_span).most) e)
+  in_time_cases spans horizon false e f late = too_long late.0 (omega (arith, ap length e, late.1)) (omega (arith, f, late.2 no_span, ap (λ l. (get_or l late.0 no_span).most) e))
 
   -- ---- the first tables
 

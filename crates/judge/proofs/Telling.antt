@@ -1,5 +1,6 @@
 -- Why a mark is right, and that goodness grows with the horizon.
-use Rattle.std.proofs.Common.{◌≡◌, ℕ, ◌≤◌, refl, arith}
+use Rattle.std.proofs.Common.{◌≡◌, ℕ, zero, suc, ◌<◌, ◌≤◌, [], ◌∷◌, Some, None, Option, MatchOption, refl, arith}
+use Rattle.std.specs.List.{HoldsAt, AllWithin}
 use Rattle.std.proofs.lemmas.Int.{ints}
 use Rattle.rules.specs.Card.{Card, WellMade, span_count, start_of, finish_of, least_of, most_of, tie_count, from_of, to_of, gap_of}
 use Rattle.rules.specs.Calls.{with_horizon}
@@ -10,14 +11,10 @@ use Rattle.rules.proofs.Looser.{looser_good}
 use Rattle.rules.proofs.Marks.{loops_lose}
 use Rattle.rules.proofs.Strategy.{tables_win}
 use Rattle.judge.specs.declared.closure.Closure.{Closure}
-use Rattle.judge.specs.declared.marking.Mark.{Mark}
 use Rattle.judge.specs.declared.marking.Mark.TheVariants as mark
 use Rattle.judge.specs.Closures.{distance, wait, Winning}
 use Rattle.judge.specs.Closing.{Doomed}
-use Rattle.judge.specs.Marks.{Marks}
-
-pub not_good : (card : Card) (m : Mark) → Marks card m → m ≡ mark.Bad → Good card → ⊥
-not_good card m right e good = let f = right.good.1 good in let z : ◌≡◌ {A = ℕ} 0 1 = cc in omega arith
+use Rattle.judge.specs.Marks.{Marks, Stretched}
 
 module _ (card : Card) (made : WellMade card) where
   pub marks_good : (t : Closure) → Winning card t → Marks card mark.Good
@@ -57,3 +54,13 @@ module _ (card : Card) (made : WellMade card) where
   longer_good h k le good =
       looser_good (with_horizon card h) (with_horizon card k) (well_made_with h)
       (record { points = refl; spans = refl; horizon = le; ties = λ j lj. (j, lj, refl, refl, omega (arith, ints)) }) good
+
+  -- of the card's own horizon and the longest, the first with which the card is good
+  pub stretched : (own : ℕ) (r : Option ℕ) → own ≡ card.horizon → card.horizon ≤ 1440 → MatchOption r (AllWithin (λ h. Good (with_horizon card h) → ⊥) (own ∷ 1440 ∷ []) 0 2) (λ h. Good (with_horizon card h) × (i : ℕ) × (i < 2) × HoldsAt (λ y. y ≡ h) (own ∷ 1440 ∷ []) i × AllWithin (λ y. Good (with_horizon card y) → ⊥) (own ∷ 1440 ∷ []) 0 i) → Stretched card r
+  stretched own None e l bad = λ h low high good. bad 1 0 (omega arith) (omega arith) (longer_good h 1440 high good)
+  stretched own (Some h) e l found = found_at found.1 found.2 found.3
+    where
+      found_at : (i : ℕ) → i < 2 → HoldsAt (λ y. y ≡ h) (own ∷ 1440 ∷ []) i → Stretched card (Some h)
+      found_at zero lt at = (omega (arith, at 0), omega (arith, at 0), found.0)
+      found_at (suc zero) lt at = (omega (arith, at 0), omega (arith, at 0), found.0)
+      found_at (suc (suc i)) lt at = absurd (omega arith)

@@ -1,5 +1,5 @@
--- How the tables of a card fall until they are closed: what they keep meanwhile, and what each part of a pass tells.
-use Rattle.std.specs.Prelude.{◌≡◌, ℕ, zero, suc, ◌+◌, ◌-◌, ◌<◌, ◌≤◌, Bool, true, false, cond, ◌||◌, ◌≢◌, ℤ, pos, negsuc, ◌+ℤ◌, ◌-ℤ◌, neg_ℤ, ◌≤ℤ◌, ◌<ℤ◌, Some, None, Ok, Err, Option, Result, ◌==◌}
+-- How the tables of a card fall until they are closed: what they keep meanwhile, and what stands where no rule lowers them.
+use Rattle.std.specs.Prelude.{◌≡◌, ℕ, zero, suc, ◌+◌, ◌-◌, ◌<◌, ◌≤◌, cond, ◌||◌, ◌≢◌, ℤ, pos, negsuc, ◌+ℤ◌, ◌-ℤ◌, neg_ℤ, ◌≤ℤ◌, ◌<ℤ◌, Some, None, Option, ◌==◌}
 use Rattle.rules.specs.declared.edges.Kind.{Kind}
 use Rattle.rules.specs.declared.edges.Kind.TheVariants.{Plain, Wait}
 use Rattle.rules.specs.declared.edges.Edge.{Edge}
@@ -11,7 +11,6 @@ use Rattle.rules.specs.Tables.{Above}
 use Rattle.judge.specs.declared.closure.Closure.{Closure}
 use Rattle.judge.specs.declared.target.Target.{Target}
 use Rattle.judge.specs.declared.target.Target.TheVariants.{Point, Start}
-use Rattle.judge.specs.declared.target.NegativeLoop.{NegativeLoop}
 use Rattle.judge.specs.Closures.{distance, wait, entry, Placed, Winning}
 
 -- ---- a target on a card
@@ -91,17 +90,6 @@ total (suc n) f = f n + total n f
 
 unfoldable pub height : Closure → ℕ
 height t = total 32 (λ p. total 32 (λ q. lift (distance t p q))) + total 8 (λ s. total 32 (λ p. lift (wait t s p)))
-
--- from t to t': something fell; or nothing did, and the rule stands
-pub record Went (card : Card) (t t' : Closure) (Stands : Type 0) (fell : Bool) : Type 0 where
-  pub holds : Holds card t'
-  pub falls : Falls t t'
-  pub less : fell ≡ true → height t' < height t
-  pub same : fell ≡ false → (t' ≡ t) × Stands
-
-abbrev pub Told : Card → Closure → Closure → Type 0 → Result Bool NegativeLoop → Type 0
-Told card t t' Stands (Ok fell) = Went card t t' Stands fell
-Told card t t' Stands (Err e) = Doomed card
 
 -- ---- what is proposed for an entry: a weight that the next edge has, if it is lower
 

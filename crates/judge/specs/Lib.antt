@@ -1,3 +1,4 @@
 pub mod Closures
 pub mod Closing
+pub mod Falling
 pub mod Marks

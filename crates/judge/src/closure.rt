@@ -6,13 +6,14 @@ use crate::target::Target;
 
 /// For each point a distance to each point, and for each span a wait from each point to its start.
 /// (In the field: the dispatchable form of the network.)
-#[derive(Clone, Copy)]
+#[derive(Clone, Copy, PartialEq, Eq, Debug)]
 pub struct Closure {
     pub distances: [[i32; 32]; 32],
     pub waits: [[i32; 32]; 8],
 }
 
 /// Writes a weight into row i at place k.
+// A function of its own: of an array in a struct no fact tells how long its rows are.
 fn set_weight<W: Copy, const R: usize>(rows: &mut [[W; 32]; R], i: usize, k: usize, weight: W)
     requires { (i < R) × (k < 32) }
     ensures { PutRow rows.old i k weight rows.new }

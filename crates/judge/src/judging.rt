@@ -1,24 +1,39 @@
 //! The judge: it lowers the tables of a card until they are closed, or finds a negative loop.
+ghost use Rattle.std.specs.Prelude.{MatchResult};
 ghost use Rattle.network.specs.Model.{model};
-ghost use Rattle.judge.specs.Closing.{Holds, Told, AllRules, Judged};
+ghost use Rattle.judge.specs.Closures.{Winning};
+ghost use Rattle.judge.specs.Closing.{Doomed, AllRules, Judged};
+ghost use Rattle.judge.specs.Falling.{card_of, Sound, Told};
 
-use crate::begins::{begin, in_time};
-use crate::chains::{chain_points, chain_starts};
+use crate::begins::in_time;
 use crate::closure::Closure;
-use crate::reductions::{all_spans, hold_ties};
+use crate::relaxation::Relaxation;
 use crate::target::NegativeLoop;
 use network::network::Network;
 
-/// One pass over all rules.
-fn pass(network: &Network, t: &mut Closure) -> Result<bool, NegativeLoop>
-    requires holds { Holds (model network.now.content) t.old }
-    ensures { Told (model network.now.content) t.old t.new (AllRules (model network.now.content) t.old) result }
-{
-    let ties = hold_ties(network, t)?;
-    let spans = all_spans(network, t)?;
-    let chains = chain_points(network, t)?;
-    let waits = chain_starts(network, t)?;
-    Ok(ties | spans | chains | waits)
+impl Relaxation<'_> {
+    /// One pass over all rules.
+    fn pass(&mut self) -> Result<bool, NegativeLoop>
+        requires sound { Sound self.old }
+        ensures { Told self.old self.new (AllRules (card_of self.old) self.old.closure) result }
+    {
+        let tie_count = self.network.tie_count();
+        let span_count = self.network.span_count();
+        let ties = self.each(tie_count, |tables, i| tables.hold_tie(i))?;
+        let spans = self.each(span_count, |tables, s| tables.span_rules(s))?;
+        let chains = self.chain_points()?;
+        let waits = self.each(span_count, |tables, s| tables.chain_start(s))?;
+        Ok(ties | spans | chains | waits)
+    }
+
+    /// Makes passes until nothing falls.
+    fn close(mut self) -> Result<Closure, NegativeLoop>
+        requires { Sound self }
+        ensures { MatchResult result (Winning (card_of self.entry)) (λ e. Doomed (card_of self.entry)) }
+    {
+        while self.pass()? {}
+        Ok(self.closure)
+    }
 }
 
 /// The tables by which the controller wins; or none, where nobody can.
@@ -28,15 +43,5 @@ pub fn judge(network: &Network) -> Option<Closure>
     if !in_time(network) {
         return None;
     }
-    let mut t = begin(network);
-    loop {
-        match pass(network, &mut t) {
-            Ok(fell) => {
-                if !fell {
-                    return Some(t);
-                }
-            }
-            Err(_) => return None,
-        }
-    }
+    Relaxation::begin(network).close().ok()
 }

@@ -8,5 +8,6 @@ pub mod judging;
 pub mod marking;
 mod parts;
 mod reductions;
-mod relax;
+mod relaxation;
+mod tables;
 pub mod target;

@@ -1,11 +1,15 @@
 //! Marks: whether the controller can win on a card, and with which horizon.
-ghost use Rattle.std.specs.Prelude.{◌≡◌, ◌≤◌};
+ghost use Rattle.std.specs.Prelude.{◌≤◌, Decides};
 ghost use Rattle.rules.specs.Calls.{with_horizon};
+ghost use Rattle.rules.specs.Game.{Good};
 ghost use Rattle.network.specs.Model.{model};
 ghost use Rattle.judge.specs.Marks.{Marks, Stretched};
 
 use crate::judging::judge;
 use network::network::Network;
+
+/// The longest horizon that a card may have.
+const LONGEST: u16 = 1440;
 
 /// The mark of a card. (In the field: whether it is dynamically controllable.)
 #[derive(Clone, Copy, PartialEq, Eq, Debug)]
@@ -26,19 +30,12 @@ pub fn mark_of(network: &Network) -> Mark
     }
 }
 
-/// The mark that a card would have with another horizon.
-fn mark_at(network: &Network, horizon: u16) -> Mark
+/// Whether the card would be good with another horizon.
+fn is_good_with(network: &Network, horizon: u16) -> bool
     requires { (1 ≤ horizon) × (horizon ≤ 1440) }
-    ensures { Marks (with_horizon (model network.now.content) horizon) result }
+    ensures { Decides result (Good (with_horizon (model network.now.content) horizon)) }
 {
-    mark_of(&network.with_horizon(horizon))
-}
-
-/// The longest horizon that a card may have.
-fn longest() -> u16
-    ensures { result ≡ 1440 }
-{
-    1440
+    mark_of(&network.with_horizon(horizon)) == Mark::Good
 }
 
 /// A horizon with which the card would be good, no shorter than its own; or none, where there is none.
@@ -47,12 +44,7 @@ pub fn stretch(network: &Network) -> Option<u16>
     ensures { Stretched (model network.now.content) result }
 {
     let own = network.horizon();
-    if let Mark::Good = mark_at(network, own) {
-        return Some(own);
-    }
-    let last = longest();
-    match mark_at(network, last) {
-        Mark::Good => Some(last),
-        Mark::Bad => None,
-    }
+    [own, LONGEST]
+        .into_iter()
+        .find(|horizon| is_good_with(network, *horizon))
 }

@@ -13,6 +13,7 @@ use std::time::Instant;
 const CARDS: usize = 3000;
 
 /// Pseudo-random numbers, by a linear congruential generator.
+// Trials has its own: a crate for one step of a generator would be longer than the step.
 #[derive(Drop)]
 struct Numbers {
     state: u64,
@@ -28,7 +29,7 @@ impl Numbers {
             .state
             .wrapping_mul(6_364_136_223_846_793_005)
             .wrapping_add(1_442_695_040_888_963_407);
-        let number = (self.state >> 33) % (bound as u64);
+        let number = (self.state >> 33) % u64::from(bound);
         number as u16
     }
 }
@@ -41,7 +42,7 @@ fn add_span(card: &mut Network, numbers: &mut Numbers) {
     let _ = card.add_span(start, least, most);
 }
 
-/// Adds a tie. One in four is tight.
+/// Adds a tie, unless the card refuses it. One in four is tight.
 fn add_tie(card: &mut Network, numbers: &mut Numbers) {
     let from = numbers.below(32) as u8;
     let to = numbers.below(32) as u8;
@@ -54,7 +55,7 @@ fn add_tie(card: &mut Network, numbers: &mut Numbers) {
     let _ = card.add_tie(Tie { from, to, gap });
 }
 
-/// The next card.
+/// The next card. What it refuses is left out: ties from a point to itself, and those after the 96th.
 fn next_card(numbers: &mut Numbers) -> Network {
     let mut card = Network::fresh(1440);
     for _ in 0..23 {
@@ -71,13 +72,9 @@ fn next_card(numbers: &mut Numbers) -> Network {
 
 /// How many of the next cards are good.
 fn count_good(numbers: &mut Numbers) -> usize {
-    let mut good: usize = 0;
-    for _ in 0..CARDS {
-        if let Mark::Good = mark_of(&next_card(numbers)) {
-            good = good.wrapping_add(1);
-        }
-    }
-    good
+    (0..CARDS)
+        .filter(|_| mark_of(&next_card(numbers)) == Mark::Good)
+        .count()
 }
 
 fn main(rt: HostRuntime) -> io::Result<()> {

@@ -1,13 +1,9 @@
-use Rattle.std.proofs.Common.{arith, below_more}
-use Rattle.std.proofs.lemmas.Bool.{false≢true}
-use Rattle.judge.proofs.Beginning.{too_long}
+use Rattle.std.proofs.Common.{◌<◌, ◌≤◌, rules, tests}
+use Rattle.std.proofs.lemmas.Iterator.{cases_from_all, YieldsList-from_slice}
+use Rattle.judge.proofs.Beginning.{in_time_cases}
 use Rattle.judge.proofs.begins.in_time.Goals as goal
 
-pub returns-then-span_of-network : goal.returns-then-span_of-network
-returns-then-span_of-network c = record {
-  yes = λ e. absurd (false≢true e);
-  no = λ _. too_long c.args.network.now c.loop-s.s (omega (arith, c.span_count-s-end.ensures)) (omega (arith, c.span_of.ensures.most_is));
-}
-
-pub loop-s-preserved : goal.loop-s-preserved
-loop-s-preserved c = below_more _ _ c.loop-s.invariant (omega (arith, c.span_of.ensures.most_is))
+pub returns : goal.returns
+returns c =
+    in_time_cases c.args.network.now c.spans.result.now c.horizon-horizon.result c.all.result c.spans.ensures c.horizon-horizon.ensures
+    (cases_from_all _ _ _ (λ x. x.most ≤ c.horizon-horizon.result) (λ x. c.horizon-horizon.result < x.most) c.all.ensures.ran (YieldsList-from_slice c.spans.result.now cc) (λ x q k. search (rules, tests)) (λ x q k. search (rules, tests)))

@@ -1,18 +1,18 @@
-use Rattle.std.proofs.Common.{sym, arith}
-use Rattle.network.proofs.Parts.{start_is, finish_is, least_is, most_is}
-use Rattle.network.proofs.Made.{span_in}
+use Rattle.std.proofs.Common.{◌≡◌, length, get_or, ap, arith}
+use Rattle.rules.specs.Card.{no_span, span_count, start_of, finish_of, least_of, most_of}
+use Rattle.network.specs.Model.{model}
 use Rattle.judge.proofs.Holding.{span_room}
 use Rattle.judge.proofs.parts.span_of.Goals as goal
 
-pub offset_bounds-network-s : goal.offset_bounds-network-s
-offset_bounds-network-s c = let h = span_room c.args.network.now c.args.s c.requires in omega arith
+pub offset_bounds-spans-s : goal.offset_bounds-spans-s
+offset_bounds-spans-s c = let h = span_room c.args.network.now c.args.s c.requires in omega arith
 
-pub bounds-network-s : goal.bounds-network-s
-bounds-network-s c = let h = span_room c.args.network.now c.args.s c.requires in omega arith
+pub bounds-spans-s : goal.bounds-spans-s
+unfolding span_count
+bounds-spans-s c = omega (arith, ap length c.spans.ensures)
 
 pub returns : goal.returns
+unfolding start_of finish_of least_of most_of
 returns c =
-    let n = c.args.network.now in
-    let s = c.args.s in
-    let h = span_in n s c.requires in
-    record { start_is = sym (start_is n.content s h); finish_is = sym (finish_is n.content s h); least_is = sym (least_is n.content s h); most_is = sym (most_is n.content s h) }
+    let e : get_or c.spans.result.now c.args.s no_span ≡ get_or (model c.args.network.now.content).spans c.args.s no_span = ap (λ l. get_or l c.args.s no_span) c.spans.ensures in
+    record { start_is = ap (λ x. x.start) e; finish_is = ap (λ x. x.finish) e; least_is = ap (λ x. x.least) e; most_is = ap (λ x. x.most) e }
