@@ -1,13 +1,17 @@
 -- What the end of a search tells of the list.
-use Rattle.std.proofs.Common.{◌≡◌, ℕ, suc, ◌+◌, ◌-◌, ◌<◌, ◌≤◌, List, length, take, drop, pos, ◌<ℤ◌, sym, ap, ◌∙◌, subst, arith, length-take-le}
+use Rattle.std.proofs.Common.{◌≡◌, ℕ, suc, ◌+◌, ◌-◌, ◌<◌, ◌≤◌, List, length, take, drop, pos, ◌<ℤ◌, Ok, sym, ap, ◌∙◌, subst, arith, length-take-le}
 use Rattle.std.proofs.lemmas.List.{same_lists, get_or-take, get_or-drop, length-drop, get_or_default}
 use Rattle.rules.specs.declared.edges.Step.{Step}
 use Rattle.rules.specs.Card.{Card, WellMade}
 use Rattle.rules.specs.Game.{Good}
 use Rattle.rules.specs.Steps.{step_at, LawfulTo, Closing, passes, Reads}
 use Rattle.rules.proofs.Listed.{lists_tell}
-use Rattle.explain.specs.Explained.{Explains, Fills}
-use Rattle.explain.specs.Working.{Onward, Shown, Full}
+use Rattle.network.specs.Model.{model}
+use Rattle.network.proofs.Made.{well_made}
+use Rattle.explain.specs.declared.search.Search.{Search}
+use Rattle.explain.specs.declared.work.Stop.TheVariants.{Loop}
+use Rattle.explain.specs.Explained.{Explains, Explained}
+use Rattle.explain.specs.Working.{Onward, Shown, card_of, Ended}
 use Rattle.explain.proofs.Writing.{Agree, lawful_agree, useful_agree}
 
 module _ (card : Card) (made : WellMade card) (before list : List Step) (k : ℕ) (on : Onward 0 before k list) (shown : Shown card list k) where
@@ -51,5 +55,8 @@ module _ (card : Card) (made : WellMade card) (before list : List Step) (k : ℕ
     λ g. lists_tell card made kept passing g,
   )
 
-pub fills : (card : Card) (list : List Step) → Full card list → Fills card list
-fills card list f = record { lawful = f.written.lawful; useful = f.written.useful; short = f.short }
+-- a search that began with an empty list, and ended with a negative loop
+pub explained : (s t : Search) → s.work.count ≡ 0 → Ended s t Loop → Explained (card_of s) s.list.now t.list.now (Ok t.work.count)
+explained s t z e =
+    subst (λ n. Explained (model n.content) s.list.now t.list.now (Ok t.work.count)) e.follows.network
+    (told (card_of t) (well_made t.network.now) s.list.now t.list.now t.work.count (subst (λ k. Onward k s.list.now t.work.count t.list.now) z e.follows.onward) e.final)

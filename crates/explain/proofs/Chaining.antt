@@ -1,5 +1,6 @@
 -- Steps by N and U, and how parts of the search follow one another.
-use Rattle.std.proofs.Common.{◌≡◌, ℕ, ◌+◌, ◌<◌, Bool, true, false, ◌||◌, ◌≢◌, List, pos, ◌+ℤ◌, neg_ℤ, ◌<ℤ◌, Ok, Err, Result, sym, refl, ◌∙◌, subst, arith, below_more}
+use Rattle.std.proofs.Common.{◌≡◌, ℕ, ◌+◌, ◌<◌, Bool, true, false, ◌||◌, ◌≢◌, List, pos, ◌+ℤ◌, neg_ℤ, ◌<ℤ◌, Ok, Err, Result, MutBor, sym, refl, ◌∙◌, subst, arith}
+use native.Mathlib.Decide.{ℕ_discrete}
 use Rattle.std.proofs.lemmas.Int.{ints}
 use Rattle.std.proofs.lemmas.Bool.{true≢false, false≢true}
 use Rattle.rules.specs.declared.edges.Kind.TheVariants.{Plain}
@@ -9,27 +10,27 @@ use Rattle.rules.specs.Edges.{edge}
 use Rattle.rules.specs.Steps.{known, LawfulStep}
 use Rattle.network.specs.declared.network.Network.{Network}
 use Rattle.network.specs.Model.{model}
-use Rattle.explain.specs.declared.work.Best.{Best}
 use Rattle.explain.specs.declared.work.Work.{Work}
 use Rattle.explain.specs.declared.work.Stop.{Stop}
-use Rattle.explain.specs.Columns.{best, at, columns, letter_of, way, height}
-use Rattle.explain.specs.Working.{Stands, Holds, Went, Told, Present, Below}
+use Rattle.explain.specs.declared.search.Search.{Search}
+use Rattle.explain.specs.Columns.{Rows, best, at, columns, letter_of, way, height}
+use Rattle.explain.specs.Working.{Stands, Holds, card_of, Ready, Follows, Went, Told, Present, Within, Idle}
 use Rattle.explain.proofs.Columns.{head_point, point_column}
 use Rattle.explain.proofs.Joining.{way_point, by_chain}
-use Rattle.explain.proofs.Writing.{lawful_by, onward_then}
+use Rattle.explain.proofs.Writing.{lawful_by, follows_then}
 use Rattle.explain.proofs.Ending.{no_r, no_m, ended_after}
 use Rattle.explain.proofs.Holding.{near_at, late}
 
 -- ---- the step by way of q
 
-abbrev pub chain_step : Card → List Best → ℕ → ℕ → ℕ → Step
+abbrev pub chain_step : Card → Rows → ℕ → ℕ → ℕ → Step
 chain_step card e p q x = record { letter = letter_of card x; left = (best e p q).number; right = (best e q x).number; makes = way card p x (at e p q +ℤ at e q x) }
 
 module _ (n : Network) (work : Work) (steps : List Step) (h : Holds (model n.content) work steps) where
   abbrev m : Card
   m = model n.content
 
-  abbrev e : List Best
+  abbrev e : Rows
   e = work.best
 
   -- a plain entry that is present
@@ -56,62 +57,73 @@ module _ (n : Network) (work : Work) (steps : List Step) (h : Holds (model n.con
 
 -- ---- one part after another
 
-module _ (card : Card) where
-  pub went_then : (w w' w'' : Work) (l l' l'' : List Step) (P Q R : Type 0) (b b' : Bool) → Went card w l w' l' P b → Went card w' l' w'' l'' Q b' → (w'.best ≡ w.best → P → Q → R) → Went card w l w'' l'' R (b || b')
-  went_then w w' w'' l l' l'' P Q R b b' u v f = record {
-    holds = v.holds;
-    onward = onward_then u.onward v.onward;
-    lower = λ p x. omega (arith, ints, u.lower p x, v.lower p x);
-    less = either b b' u v;
-    same = both b b' u v;
-  }
-    where
-      either : (b b' : Bool) → Went card w l w' l' P b → Went card w' l' w'' l'' Q b' → b || b' ≡ true → height w''.best < height w.best
-      either true true u v q = omega (arith, u.less refl, v.less refl)
-      either true false u v q = subst (λ z. height z < height w.best) (sym (v.same refl).0) (u.less refl)
-      either false true u v q = subst (λ z. height w''.best < height z) (u.same refl).0 (v.less refl)
-      either false false u v q = absurd (false≢true q)
+pub went_then : {s t u : Search} {P Q R : Type 0} {b b' : Bool} → Went s t P b → Went t u Q b' → (t.network.now ≡ s.network.now → t.work.best ≡ s.work.best → P → Q → R) → Went s u R (b || b')
+went_then {s} {t} {u} {P} {Q} {R} {b} {b'} v w f = record {
+  ready = w.ready;
+  follows = follows_then v.follows w.follows;
+  lower = λ p x. omega (arith, ints, v.lower p x, w.lower p x);
+  less = either b b' v w;
+  same = both b b' v w;
+}
+  where
+    either : (b b' : Bool) → Went s t P b → Went t u Q b' → b || b' ≡ true → height u.work.best < height s.work.best
+    either true true v w q = omega (arith, v.less refl, w.less refl)
+    either true false v w q = subst (λ z. height z < height s.work.best) (sym (w.same refl).0) (v.less refl)
+    either false true v w q = subst (λ z. height u.work.best < height z) (v.same refl).0 (w.less refl)
+    either false false v w q = absurd (false≢true q)
 
-      both : (b b' : Bool) → Went card w l w' l' P b → Went card w' l' w'' l'' Q b' → b || b' ≡ false → (w''.best ≡ w.best) × R
-      both true true u v q = absurd (true≢false q)
-      both true false u v q = absurd (true≢false q)
-      both false true u v q = absurd (true≢false q)
-      both false false u v q = ((v.same refl).0 ∙ (u.same refl).0, f (u.same refl).0 (u.same refl).1 (v.same refl).1)
+    both : (b b' : Bool) → Went s t P b → Went t u Q b' → b || b' ≡ false → (u.work.best ≡ s.work.best) × R
+    both true true v w q = absurd (true≢false q)
+    both true false v w q = absurd (true≢false q)
+    both false true v w q = absurd (true≢false q)
+    both false false v w q = ((w.same refl).0 ∙ (v.same refl).0, f v.follows.network (v.same refl).0 (v.same refl).1 (w.same refl).1)
 
-  -- a turn of a loop over k: what a part tells of the table as it stood then, it tells of the first, if nothing was lowered
-  pub went_more : (w w' w'' : Work) (l l' l'' : List Step) (P : List Best → ℕ → Type 0) (k : ℕ) (b b' : Bool) → Went card w l w' l' (Below k (P w.best)) b → Went card w' l' w'' l'' (P w'.best k) b'
-      → Went card w l w'' l'' (Below (k + 1) (P w.best)) (b || b')
-  went_more w w' w'' l l' l'' P k b b' u v =
-      went_then w w' w'' l l' l'' (Below k (P w.best)) (P w'.best k) (Below (k + 1) (P w.best)) b b' u v
-      (λ same before here. below_more _ _ before (subst (λ z. P z k) same here))
+-- two parts: what the second tells of the table as it stood then, it tells of the first, if nothing was lowered
+pub went_both : (P Q : Card → Rows → Type 0) {s t u : Search} {b b' : Bool} → Went s t (P (card_of s) s.work.best) b → Went t u (Q (card_of t) t.work.best) b'
+    → Went s u (P (card_of s) s.work.best × Q (card_of s) s.work.best) (b || b')
+went_both P Q {s} {t} {u} v w =
+    went_then v w (λ net same p q. (p, subst (λ n. Q (model n.content) s.work.best) net (subst (Q (card_of t)) same q)))
 
-  pub went_both : (w w' w'' : Work) (l l' l'' : List Step) (P Q : List Best → Type 0) (b b' : Bool) → Went card w l w' l' (P w.best) b → Went card w' l' w'' l'' (Q w'.best) b'
-      → Went card w l w'' l'' (P w.best × Q w.best) (b || b')
-  went_both w w' w'' l l' l'' P Q b b' u v =
-      went_then w w' w'' l l' l'' (P w.best) (Q w'.best) (P w.best × Q w.best) b b' u v (λ same p q. (p, subst Q same q))
+pub told_as : (s t : Search) {P Q : Type 0} (r : Result Bool Stop) → Told s t P r → (P → Q) → Told s t Q r
+told_as s t (Ok b) v f = record { ready = v.ready; follows = v.follows; lower = v.lower; less = v.less; same = λ q. ((v.same q).0, f (v.same q).1) }
+told_as s t (Err stop) v f = v
 
-  pub told_after : (w w' w'' : Work) (l l' l'' : List Step) (P R : Type 0) (b : Bool) (stop : Stop) → Went card w l w' l' P b → Told card w' l' w'' l'' R (Err stop) → Told card w l w'' l'' R (Err stop)
-  told_after w w' w'' l l' l'' P R b stop u e = ended_after card w.count w'.count w''.count l l' l'' stop u.onward e
+-- a part whose second half cannot leave the table as it was
+pub told_on : (s t u : Search) {P : Type 0} (Q R : Type 0) {b : Bool} (r : Result Bool Stop) → Went s t P b → Told t u Q r → (Q → ⊥) → Told s u R r
+told_on s t u Q R (Err stop) v w never = ended_after v.follows w
+told_on s t u {P} Q R {b} (Ok true) v w never = record {
+  ready = w.ready;
+  follows = follows_then v.follows w.follows;
+  lower = λ p x. omega (arith, ints, v.lower p x, w.lower p x);
+  less = λ _. first b v;
+  same = λ q. absurd (true≢false q);
+}
+  where
+    first : (b : Bool) → Went s t P b → height u.work.best < height s.work.best
+    first true v = omega (arith, v.less refl, w.less refl)
+    first false v = subst (λ z. height u.work.best < height z) (v.same refl).0 (w.less refl)
+told_on s t u Q R (Ok false) v w never = absurd (never (w.same refl).1)
 
-  pub told_as : (w w' : Work) (l l' : List Step) (P Q : Type 0) (r : Result Bool Stop) → Told card w l w' l' P r → (P → Q) → Told card w l w' l' Q r
-  told_as w w' l l' P Q (Ok b) u f = record { holds = u.holds; onward = u.onward; lower = u.lower; less = u.less; same = λ q. ((u.same q).0, f (u.same q).1) }
-  told_as w w' l l' P Q (Err stop) u f = u
+-- ---- a rule at every place
 
-  pub went_as : (w w' : Work) (l l' : List Step) (P Q : Type 0) (b : Bool) → Went card w l w' l' P b → (P → Q) → Went card w l w' l' Q b
-  went_as w w' l l' P Q b u f = record { holds = u.holds; onward = u.onward; lower = u.lower; less = u.less; same = λ q. ((u.same q).0, f (u.same q).1) }
+-- the rule is called at k, the next place
+pub each_more : (calls : MutBor Search → ℕ → Result Bool Stop → MutBor Search → Type 0) {s : Search} (a k : ℕ) (before after : MutBor Search) {b b' : Bool}
+    → Went s before.now (Within a k (Idle calls s)) b → calls before k (Ok b') after → Went before.now after.now (Unit {0}) b' → Went s after.now (Within a (k + 1) (Idle calls s)) (b || b')
+each_more calls {s} a k before after {b} {b'} v called w =
+    went_then v called_so (λ net same old now j low high. elim (ℕ_discrete j k) [
+      | yes q ↦ subst (Idle calls s) (sym q) (record { before = before; after = after; ready = v.ready; follows = v.follows; table = same; answers = now })
+      | no ne ↦ old j low (omega arith)
+    ])
+  where
+    called_so : Went before.now after.now (calls before k (Ok false) after) b'
+    called_so = record { ready = w.ready; follows = w.follows; lower = w.lower; less = w.less; same = λ q. ((w.same q).0, subst (λ z. calls before k (Ok z) after) q called) }
 
-  -- a part whose second half cannot leave the table as it was
-  pub told_on : (w w' w'' : Work) (l l' l'' : List Step) (P Q R : Type 0) (b : Bool) (r : Result Bool Stop) → Went card w l w' l' P b → Told card w' l' w'' l'' Q r → (Q → ⊥) → Told card w l w'' l'' R r
-  told_on w w' w'' l l' l'' P Q R b (Err stop) u v never = ended_after card w.count w'.count w''.count l l' l'' stop u.onward v
-  told_on w w' w'' l l' l'' P Q R b (Ok true) u v never = record {
-    holds = v.holds;
-    onward = onward_then u.onward v.onward;
-    lower = λ p x. omega (arith, ints, u.lower p x, v.lower p x);
-    less = λ _. first b u;
-    same = λ q. absurd (true≢false q);
-  }
-    where
-      first : (b : Bool) → Went card w l w' l' P b → height w''.best < height w.best
-      first true u = omega (arith, u.less refl, v.less refl)
-      first false u = subst (λ z. height w''.best < height z) (u.same refl).0 (v.less refl)
-  told_on w w' w'' l l' l'' P Q R b (Ok false) u v never = absurd (never (v.same refl).1)
+-- what the rule tells of each place, all of them tell
+pub each_tells : (calls : MutBor Search → ℕ → Result Bool Stop → MutBor Search → Type 0) (P : Card → Rows → ℕ → Type 0) (s t : Search) (a n : ℕ) (r : Result Bool Stop)
+    → Told s t (Within a n (Idle calls s)) r
+    → ((before after : MutBor Search) (k : ℕ) → Ready before.now → Follows s before.now → k < n → calls before k (Ok false) after → Told before.now after.now (P (card_of before.now) before.now.work.best k) (Ok false))
+    → Told s t (Within a n (P (card_of s) s.work.best)) r
+each_tells calls P s t a n r v tells =
+    told_as s t r v (λ idle k low high.
+    let i = idle k low high in
+    subst (λ c. P (model c.content) s.work.best k) i.follows.network (subst (λ e. P (card_of i.before.now) e k) i.table ((tells i.before i.after k i.ready i.follows high i.answers).same refl).1))

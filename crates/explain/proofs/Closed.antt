@@ -12,9 +12,8 @@ use Rattle.rules.proofs.Strategy.{tables_win}
 use Rattle.network.specs.declared.network.Network.{Network}
 use Rattle.network.specs.Model.{model}
 use Rattle.network.proofs.Made.{well_made, start_before}
-use Rattle.explain.specs.declared.work.Best.{Best}
 use Rattle.explain.specs.declared.work.Work.{Work}
-use Rattle.explain.specs.Columns.{at, columns, wait_of, head_of}
+use Rattle.explain.specs.Columns.{Rows, at, columns, wait_of, head_of}
 use Rattle.explain.specs.Working.{Holds, Present, RuleN, Below, Rounded}
 use Rattle.explain.proofs.Columns.{head_point, head_wait, point_column, wait_column, no_wait, wait_apart}
 use Rattle.explain.proofs.Holding.{given_covered, home, late}
@@ -24,7 +23,7 @@ module _ (n : Network) (work : Work) (steps : List Step) (h : Holds (model n.con
   abbrev m : Card
   m = model n.content
 
-  abbrev e : List Best
+  abbrev e : Rows
   e = work.best
 
   abbrev D : Table

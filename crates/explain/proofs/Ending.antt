@@ -1,19 +1,20 @@
 -- How a search ends: with a negative loop, or with a full list.
-use Rattle.std.proofs.Common.{◌≡◌, ℕ, suc, ◌<◌, List, length, set, pos, ◌+ℤ◌, ◌<ℤ◌, Ok, Err, sym, refl, ap, ◌∙◌, subst, inl, inr, arith}
+use Rattle.std.proofs.Common.{◌≡◌, ℕ, suc, ◌<◌, List, pos, ◌+ℤ◌, ◌<ℤ◌, Ok, sym, ap, subst, inl, inr, arith}
 use Rattle.std.proofs.lemmas.Int.{ints}
 use Rattle.rules.specs.declared.edges.Edge.{Edge}
 use Rattle.rules.specs.declared.edges.Step.{Step}
 use Rattle.rules.specs.Card.{Card}
-use Rattle.rules.specs.Steps.{known, LawfulStep}
+use Rattle.rules.specs.Steps.{LawfulStep}
 use Rattle.explain.specs.declared.work.Best.{Best}
-use Rattle.explain.specs.declared.work.Work.{Work}
+use Rattle.explain.specs.declared.search.Search.{Search}
+use Rattle.network.specs.Model.{model}
 use Rattle.explain.specs.declared.work.Stop.{Stop}
-use Rattle.explain.specs.declared.work.Stop.TheVariants.{Loop, Spent}
+use Rattle.explain.specs.declared.work.Stop.TheVariants.{Loop}
 use Rattle.explain.specs.Columns.{columns, head_of, letter_of, way}
-use Rattle.explain.specs.Working.{Written, Shown, Full, Onward, Ended, Put, Back}
+use Rattle.explain.specs.Working.{card_of, known_to, Written, Shown, Onward, Follows, Ended, Put, Back}
 use Rattle.explain.proofs.Columns.{letter_point, letter_wait, column_is}
 use Rattle.explain.proofs.Joining.{by_chain}
-use Rattle.explain.proofs.Writing.{lawful_by, shown_more, onward_set, onward_then, full_now}
+use Rattle.explain.proofs.Writing.{lawful_by, shown_more, onward_set, follows_then}
 
 -- the letters N and U are neither R nor M
 pub no_r : (card : Card) (x : ℕ) → x < columns card → {A : Type 0} → letter_of card x ≡ 82 → A
@@ -38,24 +39,25 @@ closing_lawful card es p x back this h b =
     lawful_by (by_chain card (head_of card x) p x back.weight this.weight h) b.back_stands b.stands
     (omega (arith, ints, b.back_near.0, b.near.0), omega (arith, ints, b.back_near.1, b.near.1)) (no_r card x h) (no_m card x h)
 
--- a last step is written
-pub put_loop : (card : Card) (work work' : Work) (steps steps' : List Step) (s t : Step) → Put work steps work' steps' s (Ok tt) → s ≡ t → Written card steps work.count
-    → LawfulStep card (known card steps work.count) t → t.makes.source ≡ t.makes.target → t.makes.weight <ℤ pos 0
-    → Ended card work.count steps work'.count steps' Loop
-put_loop card work work' steps steps' s t (room, is, count, same) e w law itself negative =
-    let at : steps' ≡ set steps work.count t = is ∙ ap (set steps work.count) e in
-    subst (λ m. Onward work.count steps m steps' × Shown card steps' m) (sym count)
-    (subst (λ l. Onward work.count steps (suc work.count) l × Shown card l (suc work.count)) (sym at)
-    (onward_set steps work.count t, shown_more card steps work.count t room w law itself negative))
+module _ (s t : Search) where
+  -- a step is written, or none
+  pub follows_put : (step : Step) → Put s t step (Ok tt) → t.network.now ≡ s.network.now → t.list.ghost_name ≡ s.list.ghost_name → Follows s t
+  follows_put step (room, is, count, same) n l = record {
+    network = n;
+    list = l;
+    onward = subst (λ m. Onward s.work.count s.list.now m t.list.now) (sym count) (subst (Onward s.work.count s.list.now (suc s.work.count)) (sym is) (onward_set s.list.now s.work.count step));
+  }
 
--- no room is left
-pub put_full : (card : Card) (work work' : Work) (steps steps' : List Step) (s : Step) (stop : Stop) → Put work steps work' steps' s (Err stop) → Written card steps work.count → work.count < 6_637_824
-    → Ended card work.count steps work'.count steps' stop
-put_full card work work' steps steps' s stop (full, same, kept, is) w few =
-    subst (Ended card work.count steps work'.count steps') (sym is)
-    (subst (λ l. (length l ≡ length steps) × Full card l) (sym same) (refl, full_now card steps work.count w full few))
+  -- a last step is written
+  pub put_loop : (step : Step) → Follows s t → Put s t step (Ok tt) → Written (card_of s) s.list.now s.work.count → LawfulStep (card_of s) (known_to s) step
+      → step.makes.source ≡ step.makes.target → step.makes.weight <ℤ pos 0 → Ended s t Loop
+  put_loop step f (room, is, count, same) w law itself negative = record {
+    follows = f;
+    final = subst (λ n. Shown (model n.content) t.list.now t.work.count) (sym f.network)
+        (subst (Shown (card_of s) t.list.now) (sym count)
+        (subst (λ l. Shown (card_of s) l (suc s.work.count)) (sym is) (shown_more (card_of s) s.list.now s.work.count step room w law itself negative)));
+  }
 
 -- a search that went on, and then ended
-pub ended_after : (card : Card) (n m k : ℕ) (a b c : List Step) (stop : Stop) → Onward n a m b → Ended card m b k c stop → Ended card n a k c stop
-ended_after card n m k a b c Loop u e = (onward_then u e.0, e.1)
-ended_after card n m k a b c Spent u e = (e.0 ∙ u.long, e.1)
+pub ended_after : {s t u : Search} {stop : Stop} → Follows s t → Ended t u stop → Ended s u stop
+ended_after f e = record { follows = follows_then f e.follows; final = e.final }

@@ -1,9 +1,9 @@
 -- What a table that holds tells, and that it holds again with a better edge.
-use Rattle.std.proofs.Common.{◌≡◌, ℕ, zero, suc, ◌+◌, ◌*◌, ◌<◌, ◌≤◌, true, false, ◌≢◌, List, [], ◌∷◌, ◌++◌, length, get_or, set, ℤ, pos, negsuc, ◌+ℤ◌, neg_ℤ, ◌≤ℤ◌, ◌<ℤ◌, sym, refl, ap, ◌∙◌, subst, ⊎_elim, arith, length-append, length-set}
+use Rattle.std.proofs.Common.{◌≡◌, ℕ, zero, suc, ◌+◌, ◌<◌, ◌≤◌, true, false, ◌≢◌, List, [], ◌∷◌, ◌++◌, length, get_or, set, ℤ, pos, negsuc, ◌+ℤ◌, neg_ℤ, ◌≤ℤ◌, ◌<ℤ◌, sym, refl, ap, ◌∙◌, subst, ⊎_elim, arith, length-append}
 use native.Mathlib.Decide.{ℕ_discrete}
 use Rattle.std.proofs.lemmas.Int.{ints}
-use Rattle.std.proofs.lemmas.List.{get_or-set_same, get_or-set_other, get_or_append_left, get_or_push}
-use Rattle.std.proofs.lemmas.Bool.{cases_eq, true≢false, false≢true}
+use Rattle.std.proofs.lemmas.List.{get_or_append_left, get_or_push}
+use Rattle.std.proofs.lemmas.Bool.{true≢false, false≢true}
 use Rattle.rules.specs.declared.edges.Kind.{Kind}
 use Rattle.rules.specs.declared.edges.Kind.TheVariants.{Plain, Lower, Wait, AllMost}
 use Rattle.rules.specs.declared.edges.Edge.{Edge}
@@ -20,12 +20,13 @@ use Rattle.steps.proofs.Numbers.{given_long}
 use Rattle.steps.proofs.Reading.{known_length}
 use Rattle.explain.specs.declared.work.Best.{Best}
 use Rattle.explain.specs.declared.work.Work.{Work}
-use Rattle.explain.specs.Columns.{no_best, best, at, columns, wait_of, head_of, way, height}
+use Rattle.explain.specs.Columns.{Rows, Sized, with_entry, best, at, columns, wait_of, head_of, way, height}
 use Rattle.explain.specs.Explained.{Useful}
-use Rattle.explain.specs.Working.{Stands, Written, Fair, CoveredAt, Covered, Covers, Holds, Went, Onward, Back}
-use Rattle.explain.proofs.Columns.{head_point, point_column, head_in, best_put, height_put}
+use Rattle.explain.specs.declared.search.Search.{Search}
+use Rattle.explain.specs.Working.{Stands, Written, Fair, CoveredAt, Covered, Covers, Holds, card_of, known_to, Ready, Went, Follows, Back}
+use Rattle.explain.proofs.Columns.{head_point, point_column, head_in, entry_is, entry_here, sized_entry, height_less}
 use Rattle.explain.proofs.Joining.{way_point, same_way, way_covered}
-use Rattle.explain.proofs.Writing.{stands_more, stands_new, written_more, known_set, onward_set, onward_none}
+use Rattle.explain.proofs.Writing.{stands_more, stands_new, written_more, known_set, follows_none}
 
 -- ---- given edges stay known
 
@@ -53,13 +54,28 @@ module _ (n : Network) where
   pub horizon_in : the_card.horizon ≤ 1440
   horizon_in = n.counts.0.1
 
+-- ---- a table that covers the given edges
+
+module _ (card : Card) (e : Rows) (self : (p x : ℕ) → p < card.points → x < columns card → p ≡ head_of card x → at e p x ≡ pos 0) (covered : (f : Edge) → Given card f → Covered card e f) where
+  pub home_by : (p : ℕ) → p < card.points → at e p 0 ≤ℤ pos 0
+  home_by p lp = elim (ℕ_discrete p 0) [
+    | yes z ↦ omega (arith, ints, self p 0 lp (point_column card 0 (omega arith)) (z ∙ sym (head_point card 0 (omega arith))))
+    | no nz ↦ covered _ (given_early p (omega arith) lp)
+  ]
+
+  pub late_by : (p : ℕ) → p < card.points → at e 0 p ≤ℤ pos card.horizon
+  late_by p lp = elim (ℕ_discrete p 0) [
+    | yes z ↦ omega (arith, ints, self 0 p (omega arith) (point_column card p lp) (sym (head_point card p lp ∙ z)))
+    | no nz ↦ covered _ (given_late p (omega arith) lp)
+  ]
+
 -- ---- a table that holds
 
 module _ (n : Network) (work : Work) (steps : List Step) (h : Holds (model n.content) work steps) where
   abbrev card : Card
   card = model n.content
 
-  abbrev e : List Best
+  abbrev e : Rows
   e = work.best
 
   pub near_at : (p x : ℕ) → p < card.points → x < columns card → (negsuc 1439 ≤ℤ at e p x) × (at e p x ≤ℤ pos 1441)
@@ -76,34 +92,27 @@ module _ (n : Network) (work : Work) (steps : List Step) (h : Holds (model n.con
       subst (Covered card e) (s.1 no_edge) (h.covers a.0 s.0)
 
   pub home : (p : ℕ) → p < card.points → at e p 0 ≤ℤ pos 0
-  home p lp = elim (ℕ_discrete p 0) [
-    | yes z ↦ let f = (h.fair p 0 lp (point_column card 0 (omega arith))).self (z ∙ sym (head_point card 0 (omega arith))) in omega (arith, ints, f)
-    | no nz ↦ given_covered _ (given_early p (omega arith) lp)
-  ]
+  home = home_by card e (λ p x lp lx. (h.fair p x lp lx).self) given_covered
 
   pub late : (p : ℕ) → p < card.points → at e 0 p ≤ℤ pos card.horizon
-  late p lp = elim (ℕ_discrete p 0) [
-    | yes z ↦ let f = (h.fair 0 p (omega arith) (point_column card p lp)).self (sym (head_point card p lp ∙ z)) in omega (arith, ints, f)
-    | no nz ↦ given_covered _ (given_late p (omega arith) lp)
-  ]
+  late = late_by card e (λ p x lp lx. (h.fair p x lp lx).self) given_covered
 
 -- a table whose entry at one place is lowered covers what it covered
-module _ (card : Card) (t : List Best) (k : ℕ) (b : Best) (lower : b.weight ≤ℤ (get_or t k no_best).weight) (room : k < length t) where
-  pub lowered : (p x : ℕ) → at (set t k b) p x ≤ℤ at t p x
-  unfolding best
-  lowered p x =
+module _ (card : Card) (t : Rows) (p x : ℕ) (b : Best) (size : Sized t) (lp : p < 32) (lx : x < 40) (lower : b.weight ≤ℤ at t p x) where
+  pub lowered : (q y : ℕ) → at (with_entry t p x b) q y ≤ℤ at t q y
+  lowered q y =
       ⊎_elim
-      (λ i. let a = ap (λ z. z.weight) (ap (λ j. get_or (set t k b) j no_best) i ∙ get_or-set_same t k b no_best room) in omega (arith, ints, a, ap (λ j. (get_or t j no_best).weight) i))
-      (λ ne. let a = ap (λ z. z.weight) (get_or-set_other t k (p * 40 + x) b no_best ne) in omega (arith, ints, a))
-      (cases_eq (p * 40 + x) k)
+      (λ r. let w = ap (λ z. z.weight) r.2 in let here : at t q y ≡ at t p x = λ i. at t (r.0 i) (r.1 i) in omega (arith, ints, w, here))
+      (λ r. omega (arith, ints, ap (λ z. z.weight) r))
+      (entry_is t p x b size lp lx q y)
 
-  covered_kind : (kind : Kind) (p q : ℕ) (w : ℤ) → CoveredAt card t kind p q w → CoveredAt card (set t k b) kind p q w
-  covered_kind Plain p q w c = omega (arith, ints, c, lowered p q)
-  covered_kind (Lower s) p q w c = tt
-  covered_kind (Wait s) p q w c = omega (arith, ints, c, lowered p (wait_of card s))
-  covered_kind AllMost p q w c = c
+  covered_kind : (kind : Kind) (q y : ℕ) (w : ℤ) → CoveredAt card t kind q y w → CoveredAt card (with_entry t p x b) kind q y w
+  covered_kind Plain q y w c = omega (arith, ints, c, lowered q y)
+  covered_kind (Lower s) q y w c = tt
+  covered_kind (Wait s) q y w c = omega (arith, ints, c, lowered q (wait_of card s))
+  covered_kind AllMost q y w c = c
 
-  pub covered_still : (f : Edge) → Covered card t f → Covered card (set t k b) f
+  pub covered_still : (f : Edge) → Covered card t f → Covered card (with_entry t p x b) f
   covered_still f c = covered_kind f.kind f.source f.target f.weight c
 
 pub fair_more : (card : Card) (es : List Edge) (f : Edge) (p x : ℕ) (b : Best) → Fair card es p x b → Fair card (es ++ (f ∷ [])) p x b
@@ -117,14 +126,49 @@ fair_more card es f p x b h = record {
 
 -- ---- nothing done
 
-pub went_none : (card : Card) (work : Work) (steps : List Step) → Holds card work steps → (R : Type 0) → R → Went card work steps work steps R false
-went_none card work steps h R r = record { holds = h; onward = onward_none work.count steps; lower = λ p x. omega (arith, ints); less = λ q. absurd (false≢true q); same = λ _. (refl, r) }
+pub went_none : (s : Search) → Ready s → {R : Type 0} → R → Went s s R false
+went_none s h r = record { ready = h; follows = follows_none s; lower = λ p x. omega (arith, ints); less = λ q. absurd (false≢true q); same = λ _. (refl, r) }
 
 -- ---- a better edge
 
-module _ (n : Network) (work : Work) (steps : List Step) (h : Holds (model n.content) work steps) (p x : ℕ) (lp : p < (model n.content).points) (lx : x < columns (model n.content))
-    (s : Step) (is : s.makes ≡ way (model n.content) p x s.makes.weight) (law : LawfulStep (model n.content) (known (model n.content) steps work.count) s)
-    (less : s.makes.weight <ℤ at work.best p x) (apart : p ≢ head_of (model n.content) x) (low : neg_ℤ (pos (model n.content).horizon) ≤ℤ s.makes.weight) (room : work.count < length steps) where
+-- a step to an edge from p to column x that is worth making
+pub record Better (s : Search) (p x : ℕ) (step : Step) : Type 0 where
+  pub ready : Ready s
+  pub point_in : p < (card_of s).points
+  pub column_in : x < columns (card_of s)
+  pub is : step.makes ≡ way (card_of s) p x step.makes.weight
+  pub lawful : LawfulStep (card_of s) (known_to s) step
+  pub less : step.makes.weight <ℤ at s.work.best p x
+  pub apart : p ≢ head_of (card_of s) x
+  pub low : neg_ℤ (pos (card_of s).horizon) ≤ℤ step.makes.weight
+
+-- it is written, and in the table
+pub record Next (s : Search) (p x : ℕ) (step : Step) (t : Search) : Type 0 where
+  pub follows : Follows s t
+  pub room : s.work.count < length s.list.now
+  pub list : t.list.now ≡ set s.list.now s.work.count step
+  pub count : t.work.count ≡ suc s.work.count
+  pub table : t.work.best ≡ with_entry s.work.best p x (record { weight = step.makes.weight; number = length (given (card_of s)) + s.work.count })
+
+module _ {σ : Search} {p x : ℕ} {s : Step} (it : Better σ p x s) (room : σ.work.count < length σ.list.now) where
+  abbrev n : Network
+  n = σ.network.now
+
+  abbrev work : Work
+  work = σ.work
+
+  abbrev steps : List Step
+  steps = σ.list.now
+
+  abbrev h : Holds (model n.content) work steps
+  h = it.ready
+
+  abbrev lp : p < (model n.content).points
+  lp = it.point_in
+
+  abbrev lx : x < columns (model n.content)
+  lx = it.column_in
+
   abbrev m : Card
   m = model n.content
 
@@ -137,28 +181,28 @@ module _ (n : Network) (work : Work) (steps : List Step) (h : Holds (model n.con
   abbrev b : Best
   b = record { weight = v; number = length (given m) + work.count }
 
-  abbrev e' : List Best
-  e' = set work.best (p * 40 + x) b
+  abbrev e' : Rows
+  e' = with_entry work.best p x b
 
   abbrev made : Edge
   made = way m p x v
 
   high : v ≤ℤ pos m.horizon
-  high = omega (arith, ints, less, (h.fair p x lp lx).high)
+  high = omega (arith, ints, it.less, (h.fair p x lp lx).high)
 
   useful_made : Useful m es made
   useful_made = record {
-    apart = apart;
-    low = low;
+    apart = it.apart;
+    low = it.low;
     high = high;
-    less = λ i lt k a t. let w = same_way m work.best (get_or es i no_edge) p x lx (h.covers i lt) k a t in omega (arith, ints, w, less);
+    less = λ i lt k a t. let w = same_way m work.best (get_or es i no_edge) p x lx (h.covers i lt) k a t in omega (arith, ints, w, it.less);
   }
 
   pub written_next : Written m (set steps work.count s) (suc work.count)
-  written_next = written_more m steps work.count s room h.written law (subst (Useful m es) (sym is) useful_made)
+  written_next = written_more m steps work.count s room h.written it.lawful (subst (Useful m es) (sym it.is) useful_made)
 
   known_next : known m (set steps work.count s) (suc work.count) ≡ es ++ (made ∷ [])
-  known_next = known_set m steps work.count s room ∙ ap (λ z. es ++ (z ∷ [])) is
+  known_next = known_set m steps work.count s room ∙ ap (λ z. es ++ (z ∷ [])) it.is
 
   number_is : length (given m) + work.count ≡ length es
   number_is = sym (known_length m steps work.count)
@@ -169,8 +213,8 @@ module _ (n : Network) (work : Work) (steps : List Step) (h : Holds (model n.con
   -- the entry that leads back is as it was
   back_same : best e' (head_of m x) p ≡ best work.best (head_of m x) p
   back_same =
-      ⊎_elim (λ r. absurd (apart (sym r.0))) (λ r. r)
-      (best_put work.best p x b (head_of m x) p h.size (point_room n p lp) (column_room n x lx) (column_room n p (point_column m p lp)))
+      ⊎_elim (λ r. absurd (it.apart (sym r.0))) (λ r. r)
+      (entry_is work.best p x b h.size (point_room n p lp) (column_room n x lx) (head_of m x) p)
 
   pub back_near : (negsuc 1439 ≤ℤ at e' (head_of m x) p) × (at e' (head_of m x) p ≤ℤ pos 1441)
   back_near = subst (λ z. (negsuc 1439 ≤ℤ z.weight) × (z.weight ≤ℤ pos 1441)) (sym back_same) (near_at n work steps h (head_of m x) p (head_in m (well_made n) x lx) (point_column m p lp))
@@ -179,22 +223,22 @@ module _ (n : Network) (work : Work) (steps : List Step) (h : Holds (model n.con
   back_loop negative =
       let f = h.fair (head_of m x) p (head_in m (well_made n) x lx) (point_column m p lp) in
       let w = ap (λ z. z.weight) back_same in
-      let st = f.stands (λ q. apart (sym (q ∙ head_point m p lp))) (omega (arith, ints, negative, low, w)) in
+      let st = f.stands (λ q. it.apart (sym (q ∙ head_point m p lp))) (omega (arith, ints, negative, it.low, w)) in
       let old = subst (λ z. Stands es (best work.best (head_of m x) p).number z) (way_point m (head_of m x) p _ lp) st in
       record {
         back_stands = subst (λ z. Stands (known m (set steps work.count s) (suc work.count)) z.number (edge Plain (head_of m x) p z.weight)) (sym back_same)
             (subst (λ z. Stands z (best work.best (head_of m x) p).number (edge Plain (head_of m x) p (at work.best (head_of m x) p))) (sym known_next) (stands_more es made _ _ old));
         stands = stands_made;
         back_near = (omega (arith, ints, back_near.0), omega (arith, ints, back_near.1));
-        near = (omega (arith, ints, low, horizon_in n), omega (arith, ints, high, horizon_in n));
+        near = (omega (arith, ints, it.low, horizon_in n), omega (arith, ints, high, horizon_in n));
         negative = negative;
       }
 
   fair_new : pos 0 ≤ℤ (at e' (head_of m x) p +ℤ v) → Fair m (es ++ (made ∷ [])) p x b
   fair_new back = record {
-    self = λ q. absurd (apart q);
+    self = λ q. absurd (it.apart q);
     high = omega (arith, ints, high);
-    low = low;
+    low = it.low;
     first = λ z. let w = ap (λ y. y.weight) back_same in let z0 = ap (at work.best (head_of m x)) z in omega (arith, ints, back, w, z0, home n work steps h (head_of m x) (head_in m (well_made n) x lx));
     stands = λ ne le. stands_new es made b.number number_is;
   }
@@ -203,76 +247,69 @@ module _ (n : Network) (work : Work) (steps : List Step) (h : Holds (model n.con
   unfolding best
   holds_next back = record {
     written = written_next;
-    size = length-set work.best (p * 40 + x) b ∙ h.size;
+    size = sized_entry work.best p x b h.size (point_room n p lp) (column_room n x lx);
     fair = λ q y lq ly.
         subst (λ z. Fair m z q y (best e' q y)) (sym known_next)
         (⊎_elim
         (λ r. subst (λ z. Fair m (es ++ (made ∷ [])) q y z) (sym r.2) (subst (λ z. Fair m (es ++ (made ∷ [])) z y b) (sym r.0) (subst (λ z. Fair m (es ++ (made ∷ [])) p z b) (sym r.1) (fair_new back))))
         (λ r. subst (λ z. Fair m (es ++ (made ∷ [])) q y z) (sym r) (fair_more m es made q y _ (h.fair q y lq ly)))
-        (best_put work.best p x b q y h.size (point_room n p lp) (column_room n x lx) (column_room n y ly)));
+        (entry_is work.best p x b h.size (point_room n p lp) (column_room n x lx) q y));
     covers = subst (Covers m e') (sym known_next) covers_next;
-    spare = omega (arith, h.spare, height_put work.best p x b h.size (point_room n p lp) (column_room n x lx) (omega (arith, ints, low, horizon_in n)) less);
+    spare = omega (arith, h.spare, height_less work.best p x b h.size (point_room n p lp) (column_room n x lx) (omega (arith, ints, it.low, horizon_in n)) it.less);
   }
     where
-      in_table : p * 40 + x < length work.best
-      in_table = omega (arith, h.size, point_room n p lp, column_room n x lx)
-
       covers_next : Covers m e' (es ++ (made ∷ []))
       covers_next i lt = elim (ℕ_discrete i (length es)) [
-        | yes q ↦ subst (Covered m e') (sym (get_or_push es made no_edge i (sym q))) (way_covered m e' p x v lx (omega (arith, ints, ap (λ z. z.weight) (get_or-set_same work.best (p * 40 + x) b no_best in_table))))
+        | yes q ↦ subst (Covered m e') (sym (get_or_push es made no_edge i (sym q))) (way_covered m e' p x v lx (omega (arith, ints, ap (λ z. z.weight) (entry_here work.best p x b h.size (point_room n p lp) (column_room n x lx)))))
         | no ne ↦ let lt' : i < length es = omega (arith, length-append es (made ∷ [])) in
-            subst (Covered m e') (sym (get_or_append_left es (made ∷ []) no_edge i lt')) (covered_still m work.best (p * 40 + x) b (omega (arith, ints, less)) in_table (get_or es i no_edge) (h.covers i lt'))
+            subst (Covered m e') (sym (get_or_append_left es (made ∷ []) no_edge i lt')) (covered_still m work.best p x b h.size (point_room n p lp) (column_room n x lx) (omega (arith, ints, it.less)) (get_or es i no_edge) (h.covers i lt'))
       ]
 
   pub height_next : height e' < height work.best
-  height_next = height_put work.best p x b h.size (point_room n p lp) (column_room n x lx) (omega (arith, ints, low, horizon_in n)) less
-
-  in_table : p * 40 + x < length work.best
-  in_table = omega (arith, h.size, point_room n p lp, column_room n x lx)
+  height_next = height_less work.best p x b h.size (point_room n p lp) (column_room n x lx) (omega (arith, ints, it.low, horizon_in n)) it.less
 
   next_lower : (q y : ℕ) → at e' q y ≤ℤ at work.best q y
   unfolding best
-  next_lower q y = lowered m work.best (p * 40 + x) b (omega (arith, ints, less)) in_table q y
+  next_lower q y = lowered m work.best p x b h.size (point_room n p lp) (column_room n x lx) (omega (arith, ints, it.less)) q y
 
   at_made : at e' p x ≡ v
   unfolding best
-  at_made = ap (λ z. z.weight) (get_or-set_same work.best (p * 40 + x) b no_best in_table)
+  at_made = ap (λ z. z.weight) (entry_here work.best p x b h.size (point_room n p lp) (column_room n x lx))
 
-  -- the same of the table and the list that code made
-  module _ (work' : Work) (steps' : List Step) (table : work'.best ≡ e') (count : work'.count ≡ suc work.count) (list : steps' ≡ set steps work.count s) where
-    next_is : work' ≡ record { best = e'; count = suc work.count }
-    next_is = λ i. record { best = table i; count = count i }
+  -- the same of the search afterwards
+  module _ {τ : Search} (z : Next σ p x s τ) where
+    next_is : τ.work ≡ record { best = e'; count = suc work.count }
+    next_is = λ i. record { best = z.table i; count = z.count i }
 
-    pub next_written : Written m steps' work'.count
-    next_written = subst (λ l. Written m l work'.count) (sym list) (subst (Written m (set steps work.count s)) (sym count) written_next)
+    pub next_written : Written (card_of τ) τ.list.now τ.work.count
+    next_written =
+        subst (λ k. Written (model k.content) τ.list.now τ.work.count) (sym z.follows.network)
+        (subst (λ l. Written m l τ.work.count) (sym z.list) (subst (Written m (set steps work.count s)) (sym z.count) written_next))
 
-    pub next_few : work'.count < 6_637_824
-    next_few = omega (arith, count, h.spare)
+    pub next_back_near : (negsuc 1439 ≤ℤ at τ.work.best (head_of m x) p) × (at τ.work.best (head_of m x) p ≤ℤ pos 1441)
+    next_back_near = subst (λ t. (negsuc 1439 ≤ℤ at t (head_of m x) p) × (at t (head_of m x) p ≤ℤ pos 1441)) (sym z.table) back_near
 
-    pub next_onward : Onward work.count steps work'.count steps'
-    next_onward = subst (λ l. Onward work.count steps work'.count l) (sym list) (subst (λ k. Onward work.count steps k (set steps work.count s)) (sym count) (onward_set steps work.count s))
-
-    pub next_back_near : (negsuc 1439 ≤ℤ at work'.best (head_of m x) p) × (at work'.best (head_of m x) p ≤ℤ pos 1441)
-    next_back_near = subst (λ t. (negsuc 1439 ≤ℤ at t (head_of m x) p) × (at t (head_of m x) p ≤ℤ pos 1441)) (sym table) back_near
-
-    pub next_loop : (back this : Best) → back ≡ best work'.best (head_of m x) p → this ≡ b → (back.weight +ℤ v) <ℤ pos 0
-        → Back m (known m steps' work'.count) p x back this
+    pub next_loop : (back this : Best) → back ≡ best τ.work.best (head_of m x) p → this ≡ b → (back.weight +ℤ v) <ℤ pos 0
+        → Back (card_of τ) (known_to τ) p x back this
     next_loop back this is-back is-this negative =
-        let to : back ≡ best e' (head_of m x) p = is-back ∙ ap (λ t. best t (head_of m x) p) table in
-        subst (λ l. Back m (known m l work'.count) p x back this) (sym list)
-        (subst (λ k. Back m (known m (set steps work.count s) k) p x back this) (sym count)
+        let to : back ≡ best e' (head_of m x) p = is-back ∙ ap (λ t. best t (head_of m x) p) z.table in
+        subst (λ k. Back (model k.content) (known (model k.content) τ.list.now τ.work.count) p x back this) (sym z.follows.network)
+        (subst (λ l. Back m (known m l τ.work.count) p x back this) (sym z.list)
+        (subst (λ k. Back m (known m (set steps work.count s) k) p x back this) (sym z.count)
         (subst (λ z. Back m (known m (set steps work.count s) (suc work.count)) p x z this) (sym to)
         (subst (λ z. Back m (known m (set steps work.count s) (suc work.count)) p x (best e' (head_of m x) p) z) (sym is-this)
-        (back_loop (subst (λ z. (z.weight +ℤ v) <ℤ pos 0) to negative)))))
+        (back_loop (subst (λ z. (z.weight +ℤ v) <ℤ pos 0) to negative))))))
 
-    pub next_went : (R : Type 0) → pos 0 ≤ℤ (at work'.best (head_of m x) p +ℤ v) → Went m work steps work' steps' R true
-    next_went R back = record {
-      holds = subst (λ l. Holds m work' l) (sym list) (subst (λ w. Holds m w (set steps work.count s)) (sym next_is) (holds_next (subst (λ t. pos 0 ≤ℤ (at t (head_of m x) p +ℤ v)) table back)));
-      onward = next_onward;
-      lower = λ q y. subst (λ t. at t q y ≤ℤ at work.best q y) (sym table) (next_lower q y);
-      less = λ _. subst (λ t. height t < height work.best) (sym table) height_next;
+    pub next_went : {R : Type 0} → pos 0 ≤ℤ (at τ.work.best (head_of m x) p +ℤ v) → Went σ τ R true
+    next_went back = record {
+      ready = subst (λ k. Holds (model k.content) τ.work τ.list.now) (sym z.follows.network)
+          (subst (λ l. Holds m τ.work l) (sym z.list)
+          (subst (λ w. Holds m w (set steps work.count s)) (sym next_is) (holds_next (subst (λ t. pos 0 ≤ℤ (at t (head_of m x) p +ℤ v)) z.table back))));
+      follows = z.follows;
+      lower = λ q y. subst (λ t. at t q y ≤ℤ at work.best q y) (sym z.table) (next_lower q y);
+      less = λ _. subst (λ t. height t < height work.best) (sym z.table) height_next;
       same = λ q. absurd (true≢false q);
     }
 
-    pub next_taken : at work'.best p x ≤ℤ v
-    next_taken = omega (arith, ints, ap (λ t. at t p x) table, at_made)
+    pub next_taken : at τ.work.best p x ≤ℤ v
+    next_taken = omega (arith, ints, ap (λ t. at t p x) z.table, at_made)

@@ -1,11 +1,10 @@
 -- The rules, by columns of the table.
-use Rattle.std.proofs.Common.{◌≡◌, ℕ, ◌<◌, ◌≢◌, List, ℤ, ◌+ℤ◌, ◌≤ℤ◌, Some, sym, ap, ◌∙◌, subst, ⊎_elim}
+use Rattle.std.proofs.Common.{◌≡◌, ℕ, ◌<◌, ◌≢◌, ℤ, ◌+ℤ◌, ◌≤ℤ◌, Some, sym, ap, ◌∙◌, subst, ⊎_elim}
 use Rattle.rules.specs.declared.edges.Kind.TheVariants.{Plain, Lower, Wait}
 use Rattle.rules.specs.declared.edges.Edge.{Edge}
 use Rattle.rules.specs.Card.{Card, start_of}
 use Rattle.rules.specs.Edges.{edge, Rule, rule_n, rule_u, rule_l, rule_x, rule_r, Early, Released}
-use Rattle.explain.specs.declared.work.Best.{Best}
-use Rattle.explain.specs.Columns.{at, columns, wait_of, head_of, kind_of, letter_of, lower_of, way}
+use Rattle.explain.specs.Columns.{Rows, at, columns, wait_of, head_of, kind_of, letter_of, lower_of, way}
 use Rattle.explain.specs.Working.{CoveredAt, Covered, column_at}
 use Rattle.explain.proofs.Columns.{head_point, head_wait, kind_point, kind_wait, letter_point, letter_wait, lower_point, lower_wait, column_is}
 
@@ -52,7 +51,7 @@ module _ (card : Card) where
       (subst (λ z. Rule card 82 (edge (Wait s) p (start_of card s) v) (edge (Wait s) p (start_of card s) v) z) (sym (way_point p (start_of card s) v lt)) (rule_r s p (start_of card s) v released))
 
   -- covered by its entry
-  pub covered_way : (e : List Best) (p x : ℕ) (w : ℤ) → x < columns card → CoveredAt card e (kind_of card x) p (head_of card x) w → at e p x ≤ℤ w
+  pub covered_way : (e : Rows) (p x : ℕ) (w : ℤ) → x < columns card → CoveredAt card e (kind_of card x) p (head_of card x) w → at e p x ≤ℤ w
   covered_way e p x w h c =
       ⊎_elim
       (λ l. subst (λ z. CoveredAt card e Plain p z w) (head_point card x l) (subst (λ k. CoveredAt card e k p (head_of card x) w) (kind_point card x l) c))
@@ -60,7 +59,7 @@ module _ (card : Card) where
       (column_is card x h)
 
   -- so is an edge of the same kind and points
-  pub same_way : (e : List Best) (f : Edge) (p x : ℕ) → x < columns card → Covered card e f → f.kind ≡ kind_of card x → f.source ≡ p → f.target ≡ head_of card x → at e p x ≤ℤ f.weight
+  pub same_way : (e : Rows) (f : Edge) (p x : ℕ) → x < columns card → Covered card e f → f.kind ≡ kind_of card x → f.source ≡ p → f.target ≡ head_of card x → at e p x ≤ℤ f.weight
   same_way e f p x h c k a t =
       let z = subst (λ k. CoveredAt card e k f.source f.target f.weight) k c in
       let y = subst (λ a. CoveredAt card e (kind_of card x) a f.target f.weight) a z in
@@ -74,7 +73,7 @@ module _ (card : Card) where
       (λ y. subst (λ k. column_at card k (head_of card x) ≡ Some x) (sym (ap (kind_of card) y.2 ∙ kind_wait card y.0)) (ap Some (sym y.2)))
       (column_is card x h)
 
-  pub way_covered : (e : List Best) (p x : ℕ) (w : ℤ) → x < columns card → at e p x ≤ℤ w → CoveredAt card e (kind_of card x) p (head_of card x) w
+  pub way_covered : (e : Rows) (p x : ℕ) (w : ℤ) → x < columns card → at e p x ≤ℤ w → CoveredAt card e (kind_of card x) p (head_of card x) w
   way_covered e p x w h c =
       ⊎_elim
       (λ l. subst (λ k. CoveredAt card e k p (head_of card x) w) (sym (kind_point card x l)) (subst (λ z. CoveredAt card e Plain p z w) (sym (head_point card x l)) c))

@@ -9,9 +9,8 @@ use Rattle.rules.specs.Steps.{given, known, LawfulStep}
 use Rattle.network.specs.declared.network.Network.{Network}
 use Rattle.network.specs.Model.{model}
 use Rattle.network.proofs.Made.{well_made, most_in}
-use Rattle.explain.specs.declared.work.Best.{Best}
 use Rattle.explain.specs.declared.work.Work.{Work}
-use Rattle.explain.specs.Columns.{best, at, columns, wait_of, lower_of, way}
+use Rattle.explain.specs.Columns.{Rows, best, at, columns, wait_of, lower_of, way}
 use Rattle.explain.specs.Working.{Stands, Holds, Present}
 use Rattle.explain.proofs.Columns.{column_is, lower_point, lower_wait, wait_column}
 use Rattle.explain.proofs.Joining.{by_lower, by_release}
@@ -22,11 +21,11 @@ not_letter : (card : Card) (x k : ℕ) → k ≢ 76 → k ≢ 88 → x < columns
 not_letter card x k a b h e =
     ⊎_elim (λ l. absurd (a (sym e ∙ lower_point card x l))) (λ w. absurd (b (sym e ∙ ap (lower_of card) w.2 ∙ lower_wait card w.0))) (column_is card x h)
 
-abbrev pub lower_step : Card → List Best → ℕ → ℕ → ℕ → Step
+abbrev pub lower_step : Card → Rows → ℕ → ℕ → ℕ → Step
 lower_step card e s number x =
     record { letter = lower_of card x; left = number; right = (best e (finish_of card s) x).number; makes = way card (start_of card s) x (pos (least_of card s) +ℤ at e (finish_of card s) x) }
 
-abbrev pub release_step : Card → List Best → ℕ → ℕ → Step
+abbrev pub release_step : Card → Rows → ℕ → ℕ → Step
 release_step card e s p =
     record { letter = 82; left = (best e p (wait_of card s)).number; right = (best e p (wait_of card s)).number; makes = way card p (start_of card s) (at e p (wait_of card s)) }
 
@@ -34,7 +33,7 @@ module _ (n : Network) (work : Work) (steps : List Step) (h : Holds (model n.con
   abbrev m : Card
   m = model n.content
 
-  abbrev e : List Best
+  abbrev e : Rows
   e = work.best
 
   pub least_small : least_of m s < 1441

@@ -1,13 +1,14 @@
 -- Given edges that make a negative loop with an edge back.
-use Rattle.std.proofs.Common.{◌≡◌, ℕ, suc, ◌+◌, ◌-◌, ◌*◌, ◌<◌, ◌≤◌, ◌≢◌, List, [], ◌∷◌, ◌++◌, length, get_or, set, ℤ, pos, negsuc, ◌+ℤ◌, neg_ℤ, ◌≤ℤ◌, ◌<ℤ◌, Some, Ok, sym, ap, ◌∙◌, subst, arith}
+use Rattle.std.proofs.Common.{◌≡◌, ℕ, suc, ◌+◌, ◌-◌, ◌*◌, ◌<◌, ◌≢◌, List, [], ◌∷◌, ◌++◌, length, get_or, set, ℤ, pos, negsuc, ◌+ℤ◌, neg_ℤ, ◌≤ℤ◌, ◌<ℤ◌, Some, Ok, sym, ap, ◌∙◌, subst, arith}
 use native.Mathlib.Decide.{ℕ_discrete}
 use Rattle.std.proofs.lemmas.Int.{ints, by_lt_z}
 use Rattle.std.proofs.lemmas.List.{get_or_default}
+use Rattle.std.proofs.lemmas.Option.{same_Some}
 use Rattle.rules.specs.declared.edges.Kind.TheVariants.{Plain}
 use Rattle.rules.specs.declared.edges.Edge.{Edge}
 use Rattle.rules.specs.declared.edges.Step.{Step}
 use Rattle.rules.specs.Card.{Card}
-use Rattle.rules.specs.Edges.{edge, Given, given_late, given_early, rule_n}
+use Rattle.rules.specs.Edges.{edge, Given, rule_n}
 use Rattle.rules.specs.Steps.{given, no_edge, known, LawfulStep}
 use Rattle.rules.proofs.Numbered.{numbered}
 use Rattle.network.specs.declared.network.Network.{Network}
@@ -15,15 +16,15 @@ use Rattle.network.specs.Model.{model}
 use Rattle.network.proofs.Made.{well_made}
 use Rattle.steps.proofs.Numbers.{point_at, given_long}
 use Rattle.explain.specs.declared.work.Best.{Best}
-use Rattle.explain.specs.declared.work.Work.{Work}
-use Rattle.explain.specs.Columns.{best, at, columns, head_of, way}
+use Rattle.explain.specs.declared.search.Search.{Search}
+use Rattle.explain.specs.Columns.{Rows, best, at, columns, head_of, way}
 use Rattle.explain.specs.Explained.{Useful}
-use Rattle.explain.specs.Working.{Stands, Written, Onward, Covered, column_at, Loaded, Tested, Put, Back, Fair, Holds}
+use Rattle.explain.specs.Working.{Stands, Written, Follows, Detoured, Covered, column_at, Loaded, Tested, Put, Back, Fair, Holds}
 use Rattle.explain.proofs.Columns.{head_point, point_column, head_in, height_high}
 use Rattle.explain.proofs.Joining.{way_point, same_way, column_back}
-use Rattle.explain.proofs.Writing.{lawful_by, written_more, known_set, stands_new, onward_set}
-use Rattle.explain.proofs.Holding.{horizon_in}
-use Rattle.explain.proofs.Loading.{OfColumn, of_column, given_at, near_loaded, some_same}
+use Rattle.explain.proofs.Writing.{lawful_by, written_more, known_set, stands_new}
+use Rattle.explain.proofs.Holding.{horizon_in, home_by, late_by}
+use Rattle.explain.proofs.Loading.{OfColumn, of_column, given_at, near_loaded}
 
 -- nothing is written yet
 pub written_none : (card : Card) (steps : List Step) (k : ℕ) → k ≡ 0 → Written card steps k
@@ -33,7 +34,7 @@ pub known_none : (card : Card) (steps : List Step) (k : ℕ) → k ≡ 0 → kno
 unfolding known
 known_none card steps k z = ap (known card steps) z
 
-module _ (n : Network) (e : List Best) (load : Loaded (model n.content) e (length (given (model n.content)))) where
+module _ (n : Network) (e : Rows) (load : Loaded (model n.content) e (length (given (model n.content)))) where
   abbrev m : Card
   m = model n.content
 
@@ -41,16 +42,10 @@ module _ (n : Network) (e : List Best) (load : Loaded (model n.content) e (lengt
   loaded_covered f g = let a = numbered m g in subst (Covered m e) (a.2 no_edge) (load.covers a.0 a.1)
 
   pub home_loaded : (p : ℕ) → p < m.points → at e p 0 ≤ℤ pos 0
-  home_loaded p lp = elim (ℕ_discrete p 0) [
-    | yes z ↦ let f = load.self p 0 lp (point_column m 0 (omega arith)) (z ∙ sym (head_point m 0 (omega arith))) in omega (arith, ints, f)
-    | no nz ↦ loaded_covered _ (given_early p (omega arith) lp)
-  ]
+  home_loaded = home_by m e load.self loaded_covered
 
   late_loaded : (p : ℕ) → p < m.points → at e 0 p ≤ℤ pos m.horizon
-  late_loaded p lp = elim (ℕ_discrete p 0) [
-    | yes z ↦ let f = load.self 0 p (omega arith) (point_column m p lp) (sym (head_point m p lp ∙ z)) in omega (arith, ints, f)
-    | no nz ↦ loaded_covered _ (given_late p (omega arith) lp)
-  ]
+  late_loaded = late_by m e load.self loaded_covered
 
   -- ---- by way of point 0
 
@@ -89,23 +84,28 @@ module _ (n : Network) (e : List Best) (load : Loaded (model n.content) e (lengt
       less = λ i lt k a t. let w = same_way m e (get_or (given m) i no_edge) h p (point_column m p lp) (load.covers i lt) k a t in omega (arith, ints, w, none);
     }
 
-    pub detoured : (work work' : Work) (steps steps' : List Step) (s : Step) (b : Best) → work.count ≡ 0 → s ≡ detour_step h p → Put work steps work' steps' s (Ok tt) → b.weight ≡ pos m.horizon → b.number ≡ length (given m)
-        → Written m steps' work'.count × Onward work.count steps work'.count steps' × (work'.count ≤ 1) × (b.weight ≡ pos m.horizon) × Stands (known m steps' work'.count) b.number (edge Plain h p b.weight)
-    detoured work work' steps steps' s b z is (room, list, count, same) bw bn =
-        let k = work.count in
+    -- it is written first of all
+    pub detoured : (s t : Search) (step : Step) (b : Best) → s.network.now ≡ n → s.work.count ≡ 0 → step ≡ detour_step h p → Put s t step (Ok tt) → Follows s t
+        → b.weight ≡ pos m.horizon → b.number ≡ length (given m) → Detoured s t h p (Ok b)
+    detoured s t step b same z is (room, list, count, _) on bw bn =
+        let k = s.work.count in
+        let steps = s.list.now in
         let g = known_none m steps k z in
         let law = subst (λ es. LawfulStep m es (detour_step h p)) (sym g) detour_lawful in
         let worth = subst (λ es. Useful m es (way m h p (pos 0 +ℤ pos m.horizon))) (sym g) detour_useful in
-        let at : steps' ≡ set steps k (detour_step h p) = list ∙ ap (set steps k) is in
-        let es : known m steps' work'.count ≡ given m ++ (way m h p (pos 0 +ℤ pos m.horizon) ∷ []) =
+        let at : t.list.now ≡ set steps k (detour_step h p) = list ∙ ap (set steps k) is in
+        let es : known m t.list.now t.work.count ≡ given m ++ (way m h p (pos 0 +ℤ pos m.horizon) ∷ []) =
         (λ i. known m (at i) (count i)) ∙ known_set m steps k (detour_step h p) room ∙ ap (λ l. l ++ (way m h p (pos 0 +ℤ pos m.horizon) ∷ [])) g in
         let w-is : pos 0 +ℤ pos m.horizon ≡ b.weight = omega (arith, ints, bw) in
-        let f-is : way m h p (pos 0 +ℤ pos m.horizon) ≡ edge Plain h p b.weight = way_point m h p (pos 0 +ℤ pos m.horizon) lp ∙ ap (edge Plain h p) w-is in (
-          subst (Written m steps') (sym count) (subst (λ l. Written m l (suc k)) (sym at) (written_more m steps k (detour_step h p) room (written_none m steps k z) law worth)),
-          subst (λ j. Onward k steps j steps') (sym count) (subst (Onward k steps (suc k)) (sym at) (onward_set steps k (detour_step h p))),
+        let f-is : way m h p (pos 0 +ℤ pos m.horizon) ≡ edge Plain h p b.weight = way_point m h p (pos 0 +ℤ pos m.horizon) lp ∙ ap (edge Plain h p) w-is in
+        let net : n ≡ t.network.now = sym (on.network ∙ same) in (
+          subst (λ k. Written (model k.content) t.list.now t.work.count) net
+              (subst (Written m t.list.now) (sym count) (subst (λ l. Written m l (suc k)) (sym at) (written_more m steps k (detour_step h p) room (written_none m steps k z) law worth))),
+          on,
           omega (arith, count, z),
-          bw,
-          subst (λ l. Stands l b.number (edge Plain h p b.weight)) (sym es) (subst (λ f. Stands (given m ++ (way m h p (pos 0 +ℤ pos m.horizon) ∷ [])) b.number f) f-is (stands_new (given m) _ b.number bn)),
+          subst (λ k. b.weight ≡ pos (model k.content).horizon) net bw,
+          subst (λ k. Stands (known (model k.content) t.list.now t.work.count) b.number (edge Plain h p b.weight)) net
+              (subst (λ l. Stands l b.number (edge Plain h p b.weight)) (sym es) (subst (λ f. Stands (given m ++ (way m h p (pos 0 +ℤ pos m.horizon) ∷ [])) b.number f) f-is (stands_new (given m) _ b.number bn))),
         )
 
   -- ---- the test of a given edge
@@ -156,7 +156,7 @@ module _ (n : Network) (e : List Best) (load : Loaded (model n.content) e (lengt
         }
 
     pub tested : neg_ℤ (pos m.horizon) ≤ℤ f.weight → pos 0 ≤ℤ (at e (head_of m x) f.source +ℤ f.weight) → Tested m e f
-    tested low back y q = subst (λ z. (neg_ℤ (pos m.horizon) ≤ℤ f.weight) × (pos 0 ≤ℤ (at e (head_of m z) f.source +ℤ f.weight))) (some_same n (sym col ∙ q)) (low, back)
+    tested low back y q = subst (λ z. (neg_ℤ (pos m.horizon) ≤ℤ f.weight) × (pos 0 ≤ℤ (at e (head_of m z) f.source +ℤ f.weight))) (same_Some _ _ (sym col ∙ q)) (low, back)
 
   -- ---- all are tested
 
@@ -192,5 +192,5 @@ module _ (n : Network) (e : List Best) (load : Loaded (model n.content) e (lengt
       size = load.size;
       fair = λ p x lp lx. subst (λ es. Fair m es p x (best e p x)) (sym (known_none m steps k z)) (fair_loaded p x lp lx);
       covers = subst (λ es. (i : ℕ) → i < length es → Covered m e (get_or es i no_edge)) (sym (known_none m steps k z)) load.covers;
-      spare = omega (arith, z, load.size, height_high e (λ j lj. load.top j (omega (arith, load.size))));
+      spare = omega (arith, z, height_high e load.size load.top);
     }

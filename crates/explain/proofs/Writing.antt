@@ -8,7 +8,8 @@ use Rattle.rules.specs.Card.{Card}
 use Rattle.rules.specs.Edges.{Rule, InRange}
 use Rattle.rules.specs.Steps.{step_at, known, LawfulStep, LawfulAt, LawfulTo}
 use Rattle.explain.specs.Explained.{Useful, UsefulAt}
-use Rattle.explain.specs.Working.{Stands, Written, Shown, Full, Onward}
+use Rattle.explain.specs.declared.search.Search.{Search}
+use Rattle.explain.specs.Working.{Stands, Written, Shown, Onward, Follows}
 
 -- ---- known edges
 
@@ -108,11 +109,14 @@ module _ (card : Card) (steps : List Step) (n : ℕ) (s : Step) (room : n < leng
         negative = subst (λ z. z.makes.weight <ℤ pos 0) here negative;
       }
 
-pub full_now : (card : Card) (steps : List Step) (n : ℕ) → Written card steps n → n ≡ length steps → n < 6_637_824 → Full card steps
-full_now card steps n w e h = record { written = subst (Written card steps) e w; short = omega (arith, e) }
-
 pub onward_then : {n m k : ℕ} {a b c : List Step} → Onward n a m b → Onward m b k c → Onward n a k c
 onward_then u v = record { more = omega (arith, u.more, v.more); long = v.long ∙ u.long; later = λ i h. v.later i h ∙ u.later i (omega (arith, v.more)) }
 
 pub onward_none : (n : ℕ) (a : List Step) → Onward n a n a
 onward_none n a = record { more = omega arith; long = refl; later = λ i h. refl }
+
+pub follows_then : {s t u : Search} → Follows s t → Follows t u → Follows s u
+follows_then f g = record { network = g.network ∙ f.network; list = g.list ∙ f.list; onward = onward_then f.onward g.onward }
+
+pub follows_none : (s : Search) → Follows s s
+follows_none s = record { network = refl; list = refl; onward = onward_none s.work.count s.list.now }

@@ -1,27 +1,24 @@
 //! Why a card is bad, as a list of steps.
-ghost use Rattle.std.specs.Prelude.{◌≡◌, length};
-ghost use Rattle.rules.specs.Steps.{given};
 ghost use Rattle.network.specs.Model.{model};
 ghost use Rattle.explain.specs.Explained.{Explained};
-ghost use Rattle.explain.specs.Working.{Loaded, Saturated};
+ghost use Rattle.explain.specs.Working.{Fresh, Saturated};
 
-use crate::given::load;
-use crate::given_loops::test;
-use crate::rounds::saturate;
+use crate::search::Search;
 use crate::work::{Stop, Work};
 use judge::marking::{Mark, mark_of};
 use network::network::Network;
 use rules::edges::Step;
 use rules::refusal::Refusal;
 
-/// Writes steps until one makes a negative loop or the list is full; if neither comes, the card is good.
-fn search(network: &Network, work: &mut Work, list: &mut [Step]) -> Result<(), Stop>
-    requires loaded { Loaded (model network.now.content) work.old.best (length (given (model network.now.content))) }
-    requires count { work.old.count ≡ 0 }
-    ensures { Saturated (model network.now.content) work.old list.old work.new list.new result }
-{
-    test(network, work, list)?;
-    saturate(network, work, list)
+impl Search<'_> {
+    /// Writes steps until one makes a negative loop or the list is full; if neither comes, the card is good.
+    fn run(&mut self) -> Result<(), Stop>
+        requires { Fresh self.old }
+        ensures { Saturated self.old self.new result }
+    {
+        self.test()?;
+        self.saturate()
+    }
 }
 
 /// Writes why nobody can win on a bad card: steps that end in a negative loop, each but the last to an edge better than all before it.
@@ -29,15 +26,17 @@ fn search(network: &Network, work: &mut Work, list: &mut [Step]) -> Result<(), S
 pub fn explain(network: &Network, list: &mut [Step]) -> Result<usize, Refusal>
     ensures { Explained (model network.now.content) list.old list.new result }
 {
-    if let Mark::Good = mark_of(network) {
+    if mark_of(network) == Mark::Good {
         return Err(Refusal::CardGood);
     }
-    let mut work = load(network);
-    match search(network, &mut work, list) {
+    let mut search = Search {
+        network,
+        list,
+        work: Work::load(network),
+    };
+    match search.run() {
         Ok(()) => Err(Refusal::CardGood),
-        Err(stop) => match stop {
-            Stop::Loop => Ok(work.count),
-            Stop::Spent => Err(Refusal::StepsSpent),
-        },
+        Err(Stop::Loop) => Ok(search.work.count),
+        Err(Stop::Spent) => Err(Refusal::StepsSpent),
     }
 }

@@ -1,9 +1,8 @@
 //! The table of given edges, with which the search begins.
-ghost use Rattle.std.specs.Prelude.{◌≡◌, ℕ, suc, ◌/◌, ◌%◌, ◌<◌, ◌≤◌, ◌≢◌, length, pos, ◌+ℤ◌, neg_ℤ, ◌≤ℤ◌, ◌<ℤ◌, Some};
+ghost use Rattle.std.specs.Prelude.{◌≡◌, suc, ◌<◌, length, slice_index_or};
 ghost use Rattle.rules.specs.Steps.{given, no_edge};
 ghost use Rattle.network.specs.Model.{model};
-ghost use Rattle.explain.specs.Columns.{at, best, columns, head_of};
-ghost use Rattle.explain.specs.Working.{column_at, Blank, Loaded};
+ghost use Rattle.explain.specs.Working.{column_at, GivenEntry, Loaded};
 
 use crate::tables::{head, width};
 use crate::work::{Best, Work};
@@ -11,88 +10,81 @@ use network::network::Network;
 use rules::edges::{Edge, Kind};
 use steps::given::{given_count, given_edge};
 
-/// What place k of the table holds where no edge is known.
-fn blank(network: &Network, k: usize) -> Best
-    ensures top { result.weight ≤ℤ pos 1441 }
-    ensures weight { k / 40 < (model network.now.content).points → k % 40 < columns (model network.now.content) → Blank (model network.now.content) (k / 40) (k % 40) result.weight }
-{
-    let none = Best {
-        weight: network.content.horizon as i32 + 1,
-        number: 0,
-    };
-    if k % 40 >= width(network) {
-        return none;
-    }
-    if head(network, k % 40) != k / 40 {
-        return none;
-    }
-    Best {
-        weight: 0,
-        number: 0,
-    }
-}
-
-/// The table where no edge is known.
-fn empty(network: &Network) -> Work
-    ensures table { Loaded (model network.now.content) result.best 0 }
-    ensures count { result.count ≡ 0 }
-{
-    let mut work = Work {
-        best: [Best {
-            weight: 0,
-            number: 0,
-        }; 1280],
-        count: 0,
-    };
-    for k in 0..1280 {
-        work.best[k] = blank(network, k);
-    }
-    work
-}
-
 /// The column of an edge; none for lower and all-most edges.
-pub fn column(network: &Network, edge: Edge) -> Option<usize>
+fn column(network: &Network, edge: Edge) -> Option<usize>
     ensures { result ≡ column_at (model network.now.content) edge.kind edge.target }
 {
     match edge.kind {
-        Kind::Plain => Some(edge.target as usize),
-        Kind::Wait(s) => Some(network.content.points + s as usize),
+        Kind::Plain => Some(usize::from(edge.target)),
+        Kind::Wait(s) => Some(network.points() + usize::from(s)),
         Kind::Lower(_) | Kind::AllMost => None,
     }
 }
 
-/// Takes the given edge of this number into the table, if it is better than what is known.
-fn adopt(network: &Network, work: &mut Work, number: usize)
-    requires loaded { Loaded (model network.now.content) work.old.best number }
-    requires place { number < length (given (model network.now.content)) }
-    ensures table { Loaded (model network.now.content) work.new.best (suc number) }
-    ensures count { work.new.count ≡ work.old.count }
+/// The given edge of this number as an entry of the table, with its row and column; none for lower and all-most edges.
+pub(crate) fn given_entry(network: &Network, number: usize) -> Option<(usize, usize, Best)>
+    requires { number < length (given (model network.now.content)) }
+    ensures { GivenEntry (model network.now.content) (slice_index_or (given (model network.now.content)) number no_edge) number result }
 {
-    let Some(edge) = given_edge(network, number) else {
-        return;
-    };
-    let Some(x) = column(network, edge) else {
-        return;
-    };
-    let p = edge.source as usize;
-    if edge.weight >= work.at(p, x).weight {
-        return;
-    }
-    let this = Best {
+    let edge = given_edge(network, number)?;
+    let x = column(network, edge)?;
+    let entry = Best {
         weight: edge.weight,
         number: number as u32,
     };
-    work.put(p, x, this);
+    Some((usize::from(edge.source), x, entry))
 }
 
-/// The table of all given edges.
-pub fn load(network: &Network) -> Work
-    ensures table { Loaded (model network.now.content) result.best (length (given (model network.now.content))) }
-    ensures count { result.count ≡ 0 }
-{
-    let mut work = empty(network);
-    for number in 0..given_count(network) {
-        adopt(network, &mut work, number);
+impl Work {
+    /// The table where no edge is known.
+    fn empty(network: &Network) -> Work
+        ensures table { Loaded (model network.now.content) result.best 0 }
+        ensures count { result.count ≡ 0 }
+    {
+        let none = Best {
+            weight: i32::from(network.horizon()) + 1,
+            number: 0,
+        };
+        let mut work = Work {
+            best: [[none; 40]; 32],
+            count: 0,
+        };
+        let itself = Best {
+            weight: 0,
+            number: 0,
+        };
+        // By number: a column's point is worked out from its number.
+        for x in 0..width(network) {
+            work.put(head(network, x), x, itself);
+        }
+        work
     }
-    work
+
+    /// Takes the given edge of this number into the table, if it is better than what is known.
+    fn adopt(&mut self, network: &Network, number: usize)
+        requires loaded { Loaded (model network.now.content) self.old.best number }
+        requires place { number < length (given (model network.now.content)) }
+        ensures table { Loaded (model network.now.content) self.new.best (suc number) }
+        ensures count { self.new.count ≡ self.old.count }
+    {
+        let Some((p, x, entry)) = given_entry(network, number) else {
+            return;
+        };
+        if entry.weight < self.at(p, x).weight {
+            self.put(p, x, entry);
+        }
+    }
+
+    /// The table of all given edges.
+    pub(crate) fn load(network: &Network) -> Work
+        ensures table { Loaded (model network.now.content) result.best (length (given (model network.now.content))) }
+        ensures count { result.count ≡ 0 }
+    {
+        let mut work = Work::empty(network);
+        // By number: the given edges stand in no list, and a step names an edge by its number.
+        for number in 0..given_count(network) {
+            work.adopt(network, number);
+        }
+        work
+    }
 }

@@ -2,11 +2,12 @@
 #![tactic(auto)]
 
 pub mod explaining;
-pub mod given;
-pub mod given_loops;
-pub mod reductions;
-pub mod relaxes;
-pub mod rounds;
-pub mod tables;
-pub mod work;
-pub mod writes;
+mod given;
+mod given_loops;
+mod reductions;
+mod relaxes;
+mod rounds;
+mod search;
+mod tables;
+mod work;
+mod writes;

@@ -1,136 +1,99 @@
 //! Rounds of the search: every rule at every place. What goes by way of point 0 comes last, since it hardly ever helps.
-ghost use Rattle.std.specs.Prelude.{◌≡◌, ℕ, ◌<◌};
+ghost use Rattle.std.specs.Prelude.{◌<◌};
 ghost use Rattle.rules.specs.Card.{span_count};
-ghost use Rattle.network.specs.Model.{model};
 ghost use Rattle.explain.specs.Columns.{columns};
-ghost use Rattle.explain.specs.Working.{Holds, Told, Below, RuleN, RuleL, RuleR, Rounded, Saturated};
+ghost use Rattle.explain.specs.Working.{card_of, Ready, Told, Below, Chained, Lowered, Released, Rounded, Saturated};
 
-use crate::reductions::{lower, release};
-use crate::relaxes::chain;
+use crate::search::Search;
 use crate::tables::width;
-use crate::work::{Stop, Work};
-use network::network::Network;
-use rules::edges::Step;
+use crate::work::Stop;
 
-/// N and U from p by way of q.
-fn chain_from(
-    network: &Network,
-    work: &mut Work,
-    list: &mut [Step],
-    p: usize,
-    q: usize,
-) -> Result<bool, Stop>
-    requires holds { Holds (model network.now.content) work.old list.old }
-    requires place { (p < (model network.now.content).points) × (q < (model network.now.content).points) }
-    ensures { Told (model network.now.content) work.old list.old work.new list.new (Below (columns (model network.now.content)) (RuleN (model network.now.content) work.old.best p q)) result }
-{
-    let mut lowered = false;
-    for x in 0..width(network) {
-        lowered |= chain(network, work, list, p, q, x)?;
+impl Search<'_> {
+    /// N and U from p by way of q.
+    fn chain_from(&mut self, p: usize, q: usize) -> Result<bool, Stop>
+        requires ready { Ready self.old }
+        requires place { (p < (card_of self.old).points) × (q < (card_of self.old).points) }
+        ensures { Told self.old self.new (Below (columns (card_of self.old)) (Chained self.old p q)) result }
+    {
+        self.each(0..width(self.network), |search, x| search.chain(p, q, x))
     }
-    Ok(lowered)
-}
 
-/// N and U by way of q.
-fn chain_by(network: &Network, work: &mut Work, list: &mut [Step], q: usize) -> Result<bool, Stop>
-    requires holds { Holds (model network.now.content) work.old list.old }
-    requires place { q < (model network.now.content).points }
-    ensures { Told (model network.now.content) work.old list.old work.new list.new (Below (model network.now.content).points (λ p. Below (columns (model network.now.content)) (RuleN (model network.now.content) work.old.best p q))) result }
-{
-    let mut lowered = false;
-    for p in 0..network.content.points {
-        lowered |= chain_from(network, work, list, p, q)?;
+    /// N and U by way of q.
+    fn chain_by(&mut self, q: usize) -> Result<bool, Stop>
+        requires ready { Ready self.old }
+        requires place { q < (card_of self.old).points }
+        ensures { Told self.old self.new (Below (card_of self.old).points (λ p. Below (columns (card_of self.old)) (Chained self.old p q))) result }
+    {
+        self.each(
+            0..self.network.points(),
+            |search, p| search.chain_from(p, q),
+        )
     }
-    Ok(lowered)
-}
 
-/// N and U by way of every point but 0.
-fn chain_all(network: &Network, work: &mut Work, list: &mut [Step]) -> Result<bool, Stop>
-    requires holds { Holds (model network.now.content) work.old list.old }
-    ensures { Told (model network.now.content) work.old list.old work.new list.new (Below (model network.now.content).points (λ q. 0 < q → Below (model network.now.content).points (λ p. Below (columns (model network.now.content)) (RuleN (model network.now.content) work.old.best p q)))) result }
-{
-    let mut lowered = false;
-    for q in 1..network.content.points {
-        lowered |= chain_by(network, work, list, q)?;
+    /// N and U by way of every point but 0.
+    fn chain_all(&mut self) -> Result<bool, Stop>
+        requires ready { Ready self.old }
+        ensures { Told self.old self.new (Below (card_of self.old).points (λ q. 0 < q → Below (card_of self.old).points (λ p. Below (columns (card_of self.old)) (Chained self.old p q)))) result }
+    {
+        self.each(1..self.network.points(), |search, q| search.chain_by(q))
     }
-    Ok(lowered)
-}
 
-/// L and X of span s.
-fn lower_all(network: &Network, work: &mut Work, list: &mut [Step], s: usize) -> Result<bool, Stop>
-    requires holds { Holds (model network.now.content) work.old list.old }
-    requires place { s < span_count (model network.now.content) }
-    ensures { Told (model network.now.content) work.old list.old work.new list.new (Below (columns (model network.now.content)) (RuleL (model network.now.content) work.old.best s)) result }
-{
-    let mut lowered = false;
-    for x in 0..width(network) {
-        lowered |= lower(network, work, list, s, x)?;
+    /// L and X of span s.
+    fn lower_all(&mut self, s: usize) -> Result<bool, Stop>
+        requires ready { Ready self.old }
+        requires place { s < span_count (card_of self.old) }
+        ensures { Told self.old self.new (Below (columns (card_of self.old)) (Lowered self.old s)) result }
+    {
+        self.each(0..width(self.network), |search, x| search.lower(s, x))
     }
-    Ok(lowered)
-}
 
-/// R of span s.
-fn release_all(
-    network: &Network,
-    work: &mut Work,
-    list: &mut [Step],
-    s: usize,
-) -> Result<bool, Stop>
-    requires holds { Holds (model network.now.content) work.old list.old }
-    requires place { s < span_count (model network.now.content) }
-    ensures { Told (model network.now.content) work.old list.old work.new list.new (Below (model network.now.content).points (RuleR (model network.now.content) work.old.best s)) result }
-{
-    let mut lowered = false;
-    for p in 0..network.content.points {
-        lowered |= release(network, work, list, s, p)?;
+    /// R of span s.
+    fn release_all(&mut self, s: usize) -> Result<bool, Stop>
+        requires ready { Ready self.old }
+        requires place { s < span_count (card_of self.old) }
+        ensures { Told self.old self.new (Below (card_of self.old).points (Released self.old s)) result }
+    {
+        self.each(0..self.network.points(), |search, p| search.release(s, p))
     }
-    Ok(lowered)
-}
 
-/// The rules of span s.
-fn span_rules(network: &Network, work: &mut Work, list: &mut [Step], s: usize) -> Result<bool, Stop>
-    requires holds { Holds (model network.now.content) work.old list.old }
-    requires place { s < span_count (model network.now.content) }
-    ensures { Told (model network.now.content) work.old list.old work.new list.new (Below (columns (model network.now.content)) (RuleL (model network.now.content) work.old.best s) × Below (model network.now.content).points (RuleR (model network.now.content) work.old.best s)) result }
-{
-    let lowered = lower_all(network, work, list, s)?;
-    let released = release_all(network, work, list, s)?;
-    Ok(lowered | released)
-}
-
-/// The rules of all spans.
-fn span_all(network: &Network, work: &mut Work, list: &mut [Step]) -> Result<bool, Stop>
-    requires holds { Holds (model network.now.content) work.old list.old }
-    ensures { Told (model network.now.content) work.old list.old work.new list.new (Below (span_count (model network.now.content)) (λ s. Below (columns (model network.now.content)) (RuleL (model network.now.content) work.old.best s) × Below (model network.now.content).points (RuleR (model network.now.content) work.old.best s))) result }
-{
-    let mut lowered = false;
-    for s in 0..network.span_count() {
-        lowered |= span_rules(network, work, list, s)?;
+    /// The rules of span s.
+    fn span_rules(&mut self, s: usize) -> Result<bool, Stop>
+        requires ready { Ready self.old }
+        requires place { s < span_count (card_of self.old) }
+        ensures { Told self.old self.new (Below (columns (card_of self.old)) (Lowered self.old s) × Below (card_of self.old).points (Released self.old s)) result }
+    {
+        let lowered = self.lower_all(s)?;
+        let released = self.release_all(s)?;
+        Ok(lowered | released)
     }
-    Ok(lowered)
-}
 
-/// One round of all rules, but for what goes by way of point 0.
-pub fn round(network: &Network, work: &mut Work, list: &mut [Step]) -> Result<bool, Stop>
-    requires holds { Holds (model network.now.content) work.old list.old }
-    ensures { Told (model network.now.content) work.old list.old work.new list.new (Rounded (model network.now.content) work.old.best) result }
-{
-    let spans = span_all(network, work, list)?;
-    let chains = chain_all(network, work, list)?;
-    Ok(spans | chains)
-}
+    /// The rules of all spans.
+    fn span_all(&mut self) -> Result<bool, Stop>
+        requires ready { Ready self.old }
+        ensures { Told self.old self.new (Below (span_count (card_of self.old)) (λ s. Below (columns (card_of self.old)) (Lowered self.old s) × Below (card_of self.old).points (Released self.old s))) result }
+    {
+        self.each(
+            0..self.network.span_count(),
+            |search, s| search.span_rules(s),
+        )
+    }
 
-/// Goes on until a negative loop is found, the list is full, or no rule lowers an entry.
-pub fn saturate(network: &Network, work: &mut Work, list: &mut [Step]) -> Result<(), Stop>
-    requires holds { Holds (model network.now.content) work.old list.old }
-    ensures { Saturated (model network.now.content) work.old list.old work.new list.new result }
-{
-    loop {
-        if round(network, work, list)? {
-            continue;
-        }
-        if !chain_by(network, work, list, 0)? {
-            return Ok(());
-        }
+    /// One round of all rules, but for what goes by way of point 0.
+    fn round(&mut self) -> Result<bool, Stop>
+        requires ready { Ready self.old }
+        ensures { Told self.old self.new (Rounded (card_of self.old) self.old.work.best) result }
+    {
+        let spans = self.span_all()?;
+        let chains = self.chain_all()?;
+        Ok(spans | chains)
+    }
+
+    /// Goes on until a negative loop is found, the list is full, or no rule lowers an entry.
+    pub(crate) fn saturate(&mut self) -> Result<(), Stop>
+        requires ready { Ready self.old }
+        ensures { Saturated self.old self.new result }
+    {
+        while self.round()? || self.chain_by(0)? {}
+        Ok(())
     }
 }

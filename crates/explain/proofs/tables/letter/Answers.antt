@@ -1,16 +1,11 @@
-use Rattle.std.proofs.Common.{◌≡◌, ◌-◌, sym, ap, ◌∙◌, arith}
+use Rattle.std.proofs.Common.{sym, ap, ◌∙◌}
 use Rattle.network.specs.Model.{model}
-use Rattle.explain.specs.Columns.{wait_of, letter_of}
-use Rattle.explain.proofs.Columns.{letter_point, letter_wait}
+use Rattle.explain.specs.Columns.{letter_of}
+use Rattle.explain.proofs.Columns.{target_point, target_start, letter_point, letter_wait}
 use Rattle.explain.proofs.tables.letter.Goals as goal
 
-pub returns-then-x-network : goal.returns-then-x-network
-returns-then-x-network c = sym (letter_point _ _ c.if-x-network.true)
+pub returns-in-Point : goal.returns-in-Point
+returns-in-Point c = let m = model c.args.network.now.content in sym (letter_point m c.args.x (target_point m _ _ c.in-Point.ensures).0)
 
-pub returns-else-x-network : goal.returns-else-x-network
-unfolding wait_of
-returns-else-x-network c =
-    let n = c.args.network.now in
-    let s = c.args.x - n.content.points in
-    let x-is : wait_of (model n.content) s ≡ c.args.x = omega arith in
-    sym (ap (letter_of (model n.content)) (sym x-is) ∙ letter_wait (model n.content) s)
+pub returns-in-Start : goal.returns-in-Start
+returns-in-Start c = let m = model c.args.network.now.content in sym (ap (letter_of m) (target_start m _ _ c.in-Start.ensures) ∙ letter_wait m _)

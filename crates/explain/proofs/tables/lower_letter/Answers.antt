@@ -1,16 +1,11 @@
-use Rattle.std.proofs.Common.{◌≡◌, ◌-◌, sym, ap, ◌∙◌, arith}
+use Rattle.std.proofs.Common.{sym, ap, ◌∙◌}
 use Rattle.network.specs.Model.{model}
-use Rattle.explain.specs.Columns.{wait_of, lower_of}
-use Rattle.explain.proofs.Columns.{lower_point, lower_wait}
+use Rattle.explain.specs.Columns.{lower_of}
+use Rattle.explain.proofs.Columns.{target_point, target_start, lower_point, lower_wait}
 use Rattle.explain.proofs.tables.lower_letter.Goals as goal
 
-pub returns-then-x-network : goal.returns-then-x-network
-returns-then-x-network c = sym (lower_point _ _ c.if-x-network.true)
+pub returns-in-Point : goal.returns-in-Point
+returns-in-Point c = let m = model c.args.network.now.content in sym (lower_point m c.args.x (target_point m _ _ c.in-Point.ensures).0)
 
-pub returns-else-x-network : goal.returns-else-x-network
-unfolding wait_of
-returns-else-x-network c =
-    let n = c.args.network.now in
-    let s = c.args.x - n.content.points in
-    let x-is : wait_of (model n.content) s ≡ c.args.x = omega arith in
-    sym (ap (lower_of (model n.content)) (sym x-is) ∙ lower_wait (model n.content) s)
+pub returns-in-Start : goal.returns-in-Start
+returns-in-Start c = let m = model c.args.network.now.content in sym (ap (lower_of m) (target_start m _ _ c.in-Start.ensures) ∙ lower_wait m _)

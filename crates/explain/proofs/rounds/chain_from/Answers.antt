@@ -1,9 +1,0 @@
-use Rattle.network.specs.Model.{model}
-use Rattle.explain.specs.Working.{RuleN}
-use Rattle.explain.proofs.Chaining.{went_more}
-use Rattle.explain.proofs.rounds.chain_from.Goals as goal
-
-pub loop-x-preserved : goal.loop-x-preserved
-loop-x-preserved c =
-    went_more (model c.args.network.now.content) c.args.work.now c.loop-x.work c.chain.new.work c.args.list.now c.loop-x.list c.chain.new.list (λ e k. RuleN (model c.args.network.now.content) e c.args.p c.args.q k) c.loop-x.x c.loop-x.lowered c.in_ok-lowered.field-0 c.loop-x.invariant
-    c.in_ok-lowered.ensures
