@@ -1,6 +1,7 @@
 -- Positions and marks as arrays.
 use Rattle.std.proofs.Common.{◌≡◌, ℕ, zero, suc, ◌<◌, Bool, true, false, ◌||◌, ◌≢◌, List, length, get_or, set, replicate, Some, None, Option, sym, refl, ap, ◌∙◌, subst, ⊎_elim, get_or-set_other, get_or-set_same}
 use mathlib.Core.Path.{fun_ext}
+use Rattle.std.proofs.Math.Bool.{or-false}
 use Rattle.std.proofs.lemmas.Bool.{cases_eq, ne_eqb}
 use Rattle.rules.specs.Game.{after, only, also}
 use Rattle.rules.proofs.Flags.{so}
@@ -16,11 +17,7 @@ at_set m q t lt n = fun_ext (λ p. ⊎_elim
 
 pub also_other : (held : ℕ → Bool) (q p : ℕ) → p ≢ q → also held q p ≡ held p
 unfolding also
-also_other held q p d = ap (λ b. held p || b) (ne_eqb p q d) ∙ by (held p)
-  where
-    by : (b : Bool) → (b || false) ≡ b
-    by true = refl
-    by false = refl
+also_other held q p d = ap (λ b. held p || b) (ne_eqb p q d) ∙ or-false (held p)
 
 pub marked_set : (h : List Bool) (q : ℕ) → q < length h → marked (set h q true) ≡ also (marked h) q
 unfolding marked

@@ -1,8 +1,9 @@
 -- The loop of decisions, order by order.
 use Rattle.std.proofs.Common.{◌≡◌, ℕ, suc, ◌+◌, ◌-◌, ◌<◌, ◌≤◌, Bool, true, false, cond, ◌&&◌, ◌||◌, T, ltb, ◌≢◌, ◌⊎◌, Some, None, sym, refl, ap, ◌∙◌, subst, subst₂, inl, inr, ⊎_elim, arith}
 use mathlib.Core.Path.{fun_ext}
+use Rattle.std.proofs.Math.Bool.{or-false}
 use Rattle.std.proofs.lemmas.Bool.{cond-true, cond-false, lt-ltb, le-ltb, cases_eq, cases_lt}
-use Rattle.rules.specs.Card.{Card, is_finish}
+use Rattle.rules.specs.Card.{Card, WellMade, is_finish}
 use Rattle.rules.specs.Game.{Position, after, only, also, no_point, Mid, CanGive}
 use Rattle.rules.specs.Tables.{Fits, late}
 use Rattle.rules.proofs.Flags.{so, so_back}
@@ -13,8 +14,9 @@ use Rattle.judge.specs.Closures.{distance, wait}
 use Rattle.minute.specs.Standing.{Tight}
 use Rattle.minute.specs.Minutes.{is_none}
 use Rattle.minute.specs.Orders.{decided, passed, CanStill, Ordered}
-use Rattle.minute.specs.Deciding.{WithinMinute, Open, Decided}
+use Rattle.minute.specs.Deciding.{WithinMinute, Open}
 use Rattle.minute.proofs.Arrays.{also_other}
+use Rattle.minute.proofs.Allowed.{gave_fits, held_fits}
 
 -- ---- what is passed
 
@@ -84,7 +86,7 @@ pub start : (card : Card) (closure : Closure) (t : ℕ) (middle : Position) (lat
     → Fits card (distance closure) (wait closure) t (late card no_point) middle → lates ≡ is_finish card → Deciding card closure t middle middle lates 0
 unfolding late
 start card closure t middle lates win time f e =
-    let none : lates ≡ late card no_point = e ∙ fun_ext (λ p. sym (by (is_finish card p))) in
+    let none : lates ≡ late card no_point = e ∙ fun_ext (λ p. sym (or-false (is_finish card p))) in
     record {
       fits = record {
         tight = win;
@@ -98,10 +100,6 @@ start card closure t middle lates win time f e =
       given = λ r a h. h;
       finishes = λ r h. refl;
     }
-  where
-    by : (b : Bool) → (b || false) ≡ b
-    by true = refl
-    by false = refl
 
 module _ (card : Card) (closure : Closure) (t : ℕ) (middle now : Position) (lates : ℕ → Bool) (q : ℕ) (d : Deciding card closure t middle now lates q) where
   -- what is late and not decided is a finish
@@ -160,15 +158,16 @@ module _ (card : Card) (closure : Closure) (t : ℕ) (middle now : Position) (la
       (λ p n h. ⊎_elim (λ x. absurd (n x)) (λ x. x) (late_cases card (passed now q) p (subst (λ l. T (l p)) d.marks h)))
       (subst₂ (λ h u. CanGive card (card.horizon - t) t u h q) (sym (same_passed now then q alike)) (sym (is_decided middle now q d.rest ∙ same_decided now then q alike middle)) g)
 
-  gave : Open card lates now q → CanGive card (card.horizon - t) t now lates q → WithinMinute card closure t lates (after t (only q) now) → Deciding card closure t middle (after t (only q) now) lates (q + 1)
-  gave o g f =
+  -- q is given, or held
+  pub gave : WellMade card → Open card lates now q → CanGive card (card.horizon - t) t now lates q → Deciding card closure t middle (after t (only q) now) lates (q + 1)
+  gave made o g =
       let then : Position = after t (only q) now in
       let off : (r : ℕ) → r ≢ q → now r ≡ then r = λ r n. sym (after_not t (only q) now r (λ h. n (only_is q r h))) in
       let alike : (r : ℕ) → r < q → now r ≡ then r = λ r lt. off r (omega arith) in
       let new : then q ≡ Some t = after_new t (only q) now q (is_only q q refl) o.unhappened in
       let at-q : middle q ≡ None = sym (d.rest q (omega arith)) ∙ o.unhappened in
       record {
-        fits = f;
+        fits = gave_fits card made closure t lates now q d.fits o g;
         marks = d.marks ∙ ap (late card) (same_passed now then q alike ∙ fun_ext (λ r. ⊎_elim
             (λ e. subst (λ x. passed then q x ≡ passed then (q + 1) x) (sym e) (passed_past then q q (omega arith) ∙ sym (passed_here then q ∙ ap is_none new)))
             (λ n. sym (passed_more then q r n))
@@ -182,9 +181,9 @@ module _ (card : Card) (closure : Closure) (t : ℕ) (middle now : Position) (la
         finishes = λ r h. ⊎_elim (λ e. absurd (o.free (d.fits.finishes q (subst (λ x. T (is_finish card x)) e h)))) (λ ne. sym (off r ne) ∙ d.finishes r h) (cases_eq r q);
       }
 
-  held_on : Open card lates now q → (CanGive card (card.horizon - t) t now lates q → ⊥) → WithinMinute card closure t (also lates q) now → Deciding card closure t middle now (also lates q) (q + 1)
-  held_on o never f = record {
-    fits = f;
+  pub held_on : WellMade card → Open card lates now q → (CanGive card (card.horizon - t) t now lates q → ⊥) → Deciding card closure t middle now (also lates q) (q + 1)
+  held_on made o never = record {
+    fits = held_fits card made closure t lates now q d.fits o never;
     marks = fun_ext (λ r. ⊎_elim
         (λ e. subst (λ x. also lates q x ≡ late card (passed now (q + 1)) x) (sym e)
         (so (itself_also lates q) ∙ sym (so (held_late card (passed now (q + 1)) q (so_back (passed_here now q ∙ ap is_none o.unhappened))))))
@@ -198,10 +197,6 @@ module _ (card : Card) (closure : Closure) (t : ℕ) (middle now : Position) (la
     given = d.given;
     finishes = d.finishes;
   }
-
-  pub step : (then : Position) (lates' : ℕ → Bool) → Open card lates now q → WithinMinute card closure t lates' then → Decided card t lates now q lates' then → Deciding card closure t middle then lates' (q + 1)
-  step then lates' o f (inl x) = subst₂ (λ s h. Deciding card closure t middle s h (q + 1)) (sym x.1) (sym x.2) (gave o x.0 (subst₂ (λ s h. WithinMinute card closure t h s) x.1 x.2 f))
-  step then lates' o f (inr x) = subst₂ (λ s h. Deciding card closure t middle s h (q + 1)) (sym x.1) (sym x.2) (held_on o x.0 (subst₂ (λ s h. WithinMinute card closure t h s) x.1 x.2 f))
 
   -- all are decided
   pub over : q ≡ card.points → Fits card (distance closure) (wait closure) (suc t) no_point now

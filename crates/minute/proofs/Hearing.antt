@@ -1,6 +1,7 @@
 -- The finishes of spans, found one after the other.
 use Rattle.std.proofs.Common.{◌≡◌, ℕ, ◌+◌, ◌<◌, Bool, true, false, ◌&&◌, ◌||◌, T, eqb, List, Some, None, Option, sym, refl, ap, ◌∙◌, ap₂, ⊎_elim, add-one, arith}
 use mathlib.Core.Path.{fun_ext}
+use Rattle.std.proofs.Math.Bool.{or_comm, and-false}
 use Rattle.std.proofs.lemmas.Bool.{eqb-true, eq-eqb, ne_eqb, cases_eq}
 use Rattle.rules.specs.Card.{Card, WellMade, span_count, finish_of, any_below, finish_among, is_finish}
 use Rattle.rules.specs.Game.{Position, settle, after, only, also}
@@ -40,13 +41,7 @@ skipped card these s e = fun_ext (λ p. found_more card these s p ∙ ap (λ b. 
 
 pub added : (card : Card) (these : ℕ → Bool) (s : ℕ) → these s ≡ true → found card these (s + 1) ≡ also (found card these s) (finish_of card s)
 unfolding also
-added card these s e = fun_ext (λ p. found_more card these s p ∙ ap₂ (λ b x. (b && x) || found card these s p) e (flip (finish_of card s) p) ∙ swap (eqb p (finish_of card s)) (found card these s p))
-  where
-    swap : (a b : Bool) → (a || b) ≡ (b || a)
-    swap true true = refl
-    swap true false = refl
-    swap false true = refl
-    swap false false = refl
+added card these s e = fun_ext (λ p. found_more card these s p ∙ ap₂ (λ b x. (b && x) || found card these s p) e (flip (finish_of card s) p) ∙ or_comm (eqb p (finish_of card s)) (found card these s p))
 
 -- ---- the finishes of a minute
 
@@ -84,13 +79,9 @@ module _ (card : Card) (made : WellMade card) (at : Position) (spans : List Trac
   unfolding ended
   over_already a h =
       ⊎_elim
-      (λ x. skip (ap (λ o. is_done (track_at spans s).status && is_none o) x ∙ by (is_done (track_at spans s).status)))
+      (λ x. skip (ap (λ o. is_done (track_at spans s).status && is_none o) x ∙ and-false (is_done (track_at spans s).status)))
       (λ x. absurd (fresh x.1))
       (after_back t (found card (ended card at spans) s) at (finish_of card s) a (sym (ap (λ f. f (finish_of card s)) e) ∙ h))
-    where
-      by : (b : Bool) → (b && false) ≡ false
-      by true = refl
-      by false = refl
 
   pub on_still : is_done (track_at spans s).status ≡ false → now ≡ after t (found card (ended card at spans) (s + 1)) at
   unfolding ended

@@ -1,3 +1,4 @@
+pub mod Alls
 pub mod Arrays
 pub mod Plain
 pub mod Props

@@ -1,31 +1,20 @@
 -- The list of events, place by place.
-use Rattle.std.proofs.Common.{◌≡◌, ℕ, zero, suc, ◌+◌, ◌<◌, ◌≤◌, Bool, true, false, cond, not, ◌&&◌, List, [], ◌∷◌, ◌++◌, length, get_or, take, drop, set, sym, refl, ap, ◌∙◌, ap₂, ⊎_elim, add-zero, add-one, arith}
-use Rattle.std.proofs.lemmas.List.{append_assoc, take-append-drop, length-append, length_push, length-take-le, set_at, drop_more, take_at, drop-drop, drop_at}
-use Rattle.std.proofs.lemmas.Bool.{cond-true, cond-false, cases_lt, cases_Bool}
+use mathlib.Core.Path.{fun_ext}
+use Rattle.std.specs.List.{filter, range_with_len}
+use Rattle.std.proofs.lemmas.List.FromFn.{filter_of_map_range_with_len_more}
+use Rattle.std.proofs.Common.{◌≡◌, ℕ, zero, suc, ◌+◌, ◌<◌, ◌≤◌, Bool, true, false, cond, not, ◌&&◌, List, [], ◌∷◌, ◌++◌, length, map, get_or, take, drop, set, sym, refl, ap, ◌∙◌, ap₂, ⊎_elim, add-zero, add-one, arith}
+use Rattle.std.proofs.lemmas.List.{append-nil, append_assoc, take-append-drop, length-append, length_push, length-take-le, set_at, drop_more}
+use Rattle.std.proofs.lemmas.Bool.{cond-true, cond-false, cases_Bool}
 use Rattle.rules.specs.Card.{Card, is_finish}
 use Rattle.rules.specs.Game.{Position}
 use Rattle.minute.specs.Minutes.{is_at}
-use Rattle.minute.specs.Events.{listed, picks, written}
+use Rattle.minute.specs.Events.{listed, picks, events, written}
 
 pub listed_skip : (P : ℕ → Bool) (n : ℕ) → P n ≡ false → listed P (n + 1) ≡ listed P n
 listed_skip P n e = ap (listed P) (add-one n) ∙ cond-false (P n) (listed P n ++ n ∷ []) (listed P n) e
 
 pub listed_more : (P : ℕ → Bool) (n : ℕ) → P n ≡ true → listed P (n + 1) ≡ listed P n ++ n ∷ []
 listed_more P n e = ap (listed P) (add-one n) ∙ cond-true (P n) (listed P n ++ n ∷ []) (listed P n) e
-
-grows : (P : ℕ → Bool) (m : ℕ) → length (listed P m) ≤ length (listed P (m + 1))
-grows P m = ⊎_elim (λ e. omega (arith, ap length (listed_more P m e), length_push (listed P m) m)) (λ e. omega (arith, ap length (listed_skip P m e))) (cases_Bool (P m))
-
-rises : (P : ℕ → Bool) (n m : ℕ) → n ≤ m → length (listed P n) ≤ length (listed P m)
-rises P n zero h = let e : n ≡ 0 = omega arith in omega (arith, ap (λ x. length (listed P x)) e)
-rises P n (suc m) h =
-    ⊎_elim (λ lt. omega (arith, rises P n m (omega arith), grows P m, ap (λ x. length (listed P x)) (add-one m)))
-    (λ le. let e : n ≡ suc m = omega arith in omega (arith, ap (λ x. length (listed P x)) e))
-    (cases_lt n (suc m))
-
--- one that is listed before m has its place
-pub has_place : (P : ℕ → Bool) (n m : ℕ) → n < m → P n ≡ true → length (listed P n) + 1 ≤ length (listed P m)
-has_place P n m h e = omega (arith, rises P (n + 1) m (omega arith), ap length (listed_more P n e), length_push (listed P n) n)
 
 -- what is a finish is no order
 pub few : (card : Card) (σ : Position) (t n : ℕ) → length (listed (picks card σ t true) n) + length (listed (picks card σ t false) n) ≤ n
@@ -65,11 +54,52 @@ more_written xs ys k v h =
     ∙ append_assoc (take k xs) ys (v ∷ drop (n + 1) xs)
     ∙ ap (λ zs. take k xs ++ zs) (sym (append_assoc ys (v ∷ []) (drop (n + 1) xs)) ∙ ap (λ m. ys ++ v ∷ [] ++ drop m xs) next)
 
--- what is written behind ys
-pub after_written : (xs ys zs : List ℕ) → written (written xs 0 ys) (length ys) zs ≡ written xs 0 (ys ++ zs)
-unfolding written
-after_written xs ys zs =
-    let l = length ys in
-    let d = drop (0 + l) xs in
-    let rest : drop (l + length zs) (ys ++ d) ≡ drop (0 + length (ys ++ zs)) xs = sym (drop-drop (length zs) l (ys ++ d)) ∙ ap (drop (length zs)) (drop_at ys d l refl) ∙ drop-drop (length zs) (0 + l) xs ∙ ap (λ m. drop m xs) (omega (arith, length-append ys zs)) in
-    ap₂ (λ a b. a ++ (zs ++ b)) (take_at ys d l refl) rest ∙ sym (append_assoc ys zs (drop (0 + length (ys ++ zs)) xs))
+-- ---- the events as the points that pass a test
+
+abbrev pub finish_now : Card → Position → ℕ → ℕ → Bool
+finish_now card then t p = is_at t (then p) && is_finish card p
+
+abbrev pub order_now : Card → Position → ℕ → ℕ → Bool
+order_now card then t p = is_at t (then p) && not (is_finish card p)
+
+abbrev pub passing : Card → Position → ℕ → List ℕ
+passing card then t = filter (finish_now card then t) (range_with_len 0 card.points) ++ filter (order_now card then t) (range_with_len 0 card.points)
+
+pub same_items : (xs : List ℕ) → map (λ x. x) xs ≡ xs
+same_items [] = refl
+same_items (x ∷ xs) = ap (λ ys. x ∷ ys) (same_items xs)
+
+listed_filter : (P : ℕ → Bool) (n : ℕ) → listed P n ≡ filter P (map (λ x. x) (range_with_len 0 n))
+listed_filter P zero = refl
+listed_filter P (suc n) =
+    ap₂ (cond (P n)) (ap (λ xs. xs ++ n ∷ []) (listed_filter P n)) (listed_filter P n)
+    ∙ by (P n) (filter P (map (λ x. x) (range_with_len 0 n)))
+    ∙ sym (filter_of_map_range_with_len_more P (λ x. x) 0 n n (omega arith))
+    ∙ ap (λ m. filter P (map (λ x. x) (range_with_len 0 m))) (add-one n)
+  where
+    by : (b : Bool) (xs : List ℕ) → cond b (xs ++ n ∷ []) xs ≡ xs ++ cond b (n ∷ []) []
+    by true xs = refl
+    by false xs = sym (append-nil xs)
+
+listed_is : (P Q : ℕ → Bool) → ((p : ℕ) → P p ≡ Q p) → (n : ℕ) → listed P n ≡ filter Q (range_with_len 0 n)
+listed_is P Q same n = listed_filter P n ∙ ap₂ filter (fun_ext same) (same_items (range_with_len 0 n))
+
+pub events_pass : (card : Card) (then : Position) (t : ℕ) → events card then t ≡ passing card then t
+unfolding picks
+events_pass card then t = ap₂ ◌++◌
+    (listed_is (picks card then t true) (finish_now card then t) (λ p. ap (λ b. is_at t (then p) && b) (one (is_finish card p))) card.points)
+    (listed_is (picks card then t false) (order_now card then t) (λ p. ap (λ b. is_at t (then p) && b) (other (is_finish card p))) card.points)
+  where
+    one : (b : Bool) → cond b true (not true) ≡ b
+    one true = refl
+    one false = refl
+
+    other : (b : Bool) → cond b false (not false) ≡ not b
+    other true = refl
+    other false = refl
+
+pub few_pass : (card : Card) (then : Position) (t : ℕ) → length (passing card then t) ≤ card.points
+few_pass card then t =
+    let F = listed (picks card then t true) card.points in
+    let O = listed (picks card then t false) card.points in
+    omega (arith, ap length (events_pass card then t), length-append F O, few card then t card.points)

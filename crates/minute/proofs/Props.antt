@@ -1,5 +1,6 @@
 -- Facts that have one proof at most, so that a ghost field can state them.
 use Rattle.std.proofs.Common.{ℕ, Bool, ℤ}
+use mathlib.Core.Logic.{∥∥₁_elim}
 use denote.Struct.Props.{props}
 use Rattle.rules.specs.Card.{Card}
 use Rattle.rules.specs.declared.edges.Kind.{Kind}
@@ -8,7 +9,11 @@ use Rattle.rules.specs.Game.{Position}
 use Rattle.rules.specs.Tables.{Table, AboveAt, Closed, SoundAtStart, Fits}
 use Rattle.rules.proofs.Basics.{option_set}
 use Rattle.judge.specs.declared.closure.Closure.{Closure}
+use Rattle.network.specs.Model.{model}
+use Rattle.minute.specs.Minutes.{at, marked}
 use Rattle.minute.specs.Standing.{Sensible, Tight, Standing}
+use Rattle.minute.specs.Deciding.{WithinMinute}
+use Rattle.minute.specs.declared.choice.Choice.{Choice}
 
 above_prop : (D W : Table) (k : Kind) (p q : ℕ) (w : ℤ) → IsProp (AboveAt D W k p q w)
 above_prop D W Plain p q w = hlevel props
@@ -33,3 +38,10 @@ sensible_prop card t at = hlevel (props, option_set)
 
 pub standing_prop : (card : Card) (closure : Closure) (t : ℕ) (at : Position) → IsProp (Standing card closure t at)
 standing_prop card closure t at = hlevel (props, tight_prop, sensible_prop, fits_prop)
+
+within_prop : (card : Card) (closure : Closure) (t : ℕ) (late : ℕ → Bool) (at : Position) → IsProp (WithinMinute card closure t late at)
+within_prop card closure t late at = hlevel (props, tight_prop, fits_prop)
+
+-- what a choice keeps, taken out of its ghost field
+pub within : (k : Choice) → WithinMinute (model k.minute.network.now.content) k.closure.now k.minute.t (marked k.late.now) (at k.position.now.minutes)
+within k = ∥∥₁_elim k.fits (within_prop _ _ _ _ _) (λ w. w)

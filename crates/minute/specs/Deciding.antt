@@ -1,7 +1,7 @@
 -- What the two tests of an order work with: tables that win, and a position that fits them within minute t.
-use Rattle.std.specs.Prelude.{◌≡◌, ℕ, suc, ◌-◌, ◌<◌, ◌≤◌, Bool, cond, T, ◌⊎◌, pos, ◌+ℤ◌, ◌≤ℤ◌, Some, None, Option}
+use Rattle.std.specs.Prelude.{◌≡◌, ℕ, suc, ◌<◌, ◌≤◌, Bool, cond, T, pos, ◌+ℤ◌, ◌≤ℤ◌, Some, None, Option}
 use Rattle.rules.specs.Card.{Card, start_of, finish_of, is_finish}
-use Rattle.rules.specs.Game.{Position, CanGive, after, only, also}
+use Rattle.rules.specs.Game.{Position}
 use Rattle.rules.specs.Tables.{Table, Fits}
 use Rattle.judge.specs.declared.closure.Closure.{Closure}
 use Rattle.judge.specs.Closures.{distance, wait}
@@ -19,12 +19,6 @@ pub record Open (card : Card) (late : ℕ → Bool) (at : Position) (q : ℕ) : 
   pub point : q < card.points
   pub free : T (late q) → ⊥
   pub unhappened : at q ≡ None
-
--- q is given if the controller can win with it given, and is late otherwise
-abbrev pub Decided : Card → ℕ → (ℕ → Bool) → Position → ℕ → (ℕ → Bool) → Position → Type 0
-Decided card t late at q late' at' =
-    (CanGive card (card.horizon - t) t at late q × (at' ≡ after t (only q) at) × (late' ≡ late))
-    ⊎ ((CanGive card (card.horizon - t) t at late q → ⊥) × (at' ≡ at) × (late' ≡ also late q))
 
 -- the minute of a point, or the first in which it still may happen
 abbrev pub soonest : ℕ → Option ℕ → Bool → ℕ

@@ -1,7 +1,5 @@
 -- The position that an array of minutes stands for.
-use Rattle.std.specs.Prelude.{◌≡◌, ℕ, Bool, true, false, List, Some, None, Option, ◌==◌, slice_index_or}
-use Rattle.rules.specs.declared.parts.Span.{Span}
-use Rattle.rules.specs.Card.{Card, start_of, finish_of, least_of, most_of}
+use Rattle.std.specs.Prelude.{ℕ, Bool, true, false, List, Some, None, Option, ◌==◌, slice_index_or}
 use Rattle.rules.specs.Game.{Position}
 
 -- each point with its minute, if it has happened
@@ -24,10 +22,3 @@ is_none (Some a) = false
 abbrev pub is_at : ℕ → Option ℕ → Bool
 is_at t None = false
 is_at t (Some a) = a == t
-
--- this is span s of the card
-pub record SpanIs (card : Card) (s : ℕ) (span : Span) : Type 0 where
-  pub start : span.start ≡ start_of card s
-  pub finish : span.finish ≡ finish_of card s
-  pub least : span.least ≡ least_of card s
-  pub most : span.most ≡ most_of card s

@@ -8,41 +8,32 @@ ghost use Rattle.minute.specs.Minutes.{at};
 ghost use Rattle.minute.specs.Meets.{track_at};
 ghost use Rattle.minute.specs.Played.{ended};
 
-use crate::look::{minute_of, set_minute, span_of};
+use crate::playing::Minute;
+use crate::position::Position;
 use kitchen::interface::Kitchen;
 use kitchen::track::Status;
-use network::network::Network;
 
 /// Whether the kitchen has ended its span s.
 fn has_ended<K: Kitchen>(kitchen: &K, s: usize) -> bool
     requires { s < length (K.Kitchen.spans kitchen.now) }
     ensures { result ≡ is_done (track_at (K.Kitchen.spans kitchen.now) s).status }
 {
-    if let Ok(Status::Done(_)) = kitchen.status(s) {
-        true
-    } else {
-        false
-    }
+    matches!(kitchen.status(s), Ok(Status::Done(_)))
 }
 
-/// Records the finishes of the spans that the kitchen has ended.
-pub(crate) fn hear<K: Kitchen>(
-    network: &Network,
-    minutes: &mut [Option<u16>; 32],
-    t: u16,
-    kitchen: &K,
-)
-    requires { span_count (model network.now.content) ≤ length (K.Kitchen.spans kitchen.now) }
-    ensures { at minutes.new ≡ heard (model network.now.content) t (ended (model network.now.content) (at minutes.old) (K.Kitchen.spans kitchen.now)) (at minutes.old) }
-{
-    for s in 0..network.span_count() {
-        let span = span_of(network, s);
-        if let Some(_) = minute_of(minutes, span.finish as usize) {
-            continue;
+impl Minute<'_> {
+    /// Records the finishes of the spans that the kitchen has ended.
+    #[tactic(auto, unfolding(rules::specs::Card::finish_of, rules::specs::Card::span_count))]
+    pub(crate) fn record_finishes<K: Kitchen>(&self, position: &mut Position, kitchen: &K)
+        requires { span_count (model self.now.network.now.content) ≤ length (K.Kitchen.spans kitchen.now) }
+        ensures { at position.new.minutes ≡ heard (model self.now.network.now.content) self.now.t (ended (model self.now.network.now.content) (at position.old.minutes) (K.Kitchen.spans kitchen.now)) (at position.old.minutes) }
+    {
+        let spans = self.network.spans();
+        for (s, span) in spans.iter().enumerate() {
+            let finish = usize::from(span.finish);
+            if position.get(finish).is_none() && has_ended(kitchen, s) {
+                position.set(finish, self.t);
+            }
         }
-        if !has_ended(kitchen, s) {
-            continue;
-        }
-        set_minute(minutes, span.finish as usize, t);
     }
 }

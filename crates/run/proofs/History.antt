@@ -18,11 +18,9 @@ use Rattle.minute.proofs.Starting.{kindled, starts_long, starts_beyond, starts_e
 use Rattle.minute.proofs.Middle.{Midway, midway, law, opening_law, none_heard}
 use Rattle.minute.proofs.After.{sensible_again, agrees_again}
 use Rattle.minute.proofs.Game.{heard_wins, ordered_wins}
-use Rattle.network.specs.Model.{model}
-use Rattle.run.specs.declared.run.Run.{Run}
-use Rattle.run.specs.Runs.{Stage, stage}
-use Rattle.run.specs.Plays.{Accepted, Fault, barred, played, short, unfit, disagrees}
-use Rattle.run.specs.Whole.{bare, Partner, History, begun, more, HistoryOf, RunsWin}
+use Rattle.run.specs.Runs.{Stage}
+use Rattle.run.specs.Plays.{Fault, barred, played, short, unfit, disagrees}
+use Rattle.run.specs.Whole.{bare, Partner, History, begun, more, RunsWin}
 use Rattle.run.proofs.Stand.{sensible_first}
 
 -- ---- a kitchen's spans over a minute
@@ -195,11 +193,11 @@ minute_bare means card t at then k l m = record {
 
 -- ---- the history of a run as the code holds it
 
-pub history_first : (s : Stage) → s.next ≡ 0 → s.position ≡ nothing_yet → HistoryOf s
-history_first s n e = subst₂ (λ t at. History s.card t at) (sym n) (sym e) begun
+pub history_first : (card : Card) (at : Position) → at ≡ nothing_yet → History card 0 at
+history_first card at e = subst (History card 0) (sym e) begun
 
-pub history_on : {K : Type 0} (means : Meaning K) (r r' : Run) (k l : K) (list list' : List ℕ) (count : ℕ) → Lawful (means.spans k) → Accepted means r r' k l list list' count → HistoryOf (stage r) → HistoryOf (stage r')
-history_on means r r' k l list list' count ok a h =
-    subst₂ (λ card t. History card t (stage r').position) (sym (ap (λ x. model x.network.content) a.card)) (sym (a.next ∙ add-one r.next))
-    (more r.next (stage r).position (stage r').position (means.spans k) (means.spans l) h a.ready.in_time (record { lawful = ok; fits = a.ready.fits; agrees = a.ready.agrees })
-    (minute_bare means (stage r).card r.next (stage r).position (stage r').position k l a.played.rules))
+pub history_on : {K : Type 0} (means : Meaning K) (card : Card) (t places : ℕ) (at then : Position) (k l : K)
+    → Lawful (means.spans k) → Ready card t at (means.spans k) places → Minute means card t at then k l → History card t at → History card (t + 1) then
+history_on means card t places at then k l ok r m h =
+    subst (λ n. History card n then) (sym (add-one t))
+    (more t at then (means.spans k) (means.spans l) h r.in_time (record { lawful = ok; fits = r.fits; agrees = r.agrees }) (minute_bare means card t at then k l m))

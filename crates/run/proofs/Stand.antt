@@ -1,6 +1,8 @@
 -- What a live run keeps, taken out of its ghost field, and what a run keeps that has just begun.
-use Rattle.std.proofs.Common.{◌≡◌, true, ap, arith}
+use Rattle.std.proofs.Common.{◌≡◌, Some, None, Option, is_some, IfSome, Decides, refl, ap, subst, arith}
+use Rattle.std.proofs.lemmas.Bool.{false≢true}
 use mathlib.Core.Logic.{∥∥₁_elim}
+use denote.Struct.Props.{props}
 use Rattle.rules.specs.Card.{Card, WellMade, finish_of}
 use Rattle.rules.specs.Game.{Position, Good}
 use Rattle.rules.proofs.Basics.{clash}
@@ -10,14 +12,21 @@ use Rattle.rules.proofs.Strategy.{tables_win}
 use Rattle.network.specs.Model.{model}
 use Rattle.judge.specs.declared.closure.Closure.{Closure}
 use Rattle.judge.specs.Closures.{distance, wait, Winning}
-use Rattle.judge.specs.Closing.{Doomed}
+use Rattle.judge.specs.Closing.{Judged}
 use Rattle.minute.specs.Minutes.{at, nothing_yet}
 use Rattle.minute.specs.Standing.{Sensible, Standing}
 use Rattle.minute.proofs.Props.{standing_prop}
 use Rattle.run.specs.declared.run.Run.{Run}
 
-pub standing : (r : Run) → r.live ≡ true → Standing (model r.card.network.content) r.closure r.next (at r.minutes)
-standing r e = ∥∥₁_elim r.ok (standing_prop (model r.card.network.content) r.closure r.next (at r.minutes)) (λ x. x e)
+pub standing : (r : Run) (t : Closure) → r.closure ≡ Some t → Standing (model r.card.network.content) t r.next (at r.position.minutes)
+standing r t e = ∥∥₁_elim r.ok (standing_prop (model r.card.network.content) t r.next (at r.position.minutes)) (λ x. subst (λ o. IfSome o (λ k. Standing (model r.card.network.content) k r.next (at r.position.minutes))) e x)
+
+-- what it keeps has one proof at most
+pub same_run : (r : Run) (kept : ∥ IfSome r.closure (λ t. Standing (model r.card.network.content) t r.next (at r.position.minutes)) ∥₁) → record r { ok = kept } ≡ r
+same_run r kept = ap (λ k. record r { ok = k }) (one kept r.ok)
+  where
+    one : IsProp (∥ IfSome r.closure (λ t. Standing (model r.card.network.content) t r.next (at r.position.minutes)) ∥₁)
+    one = hlevel props
 
 pub sensible_first : (card : Card) (at : Position) → at ≡ nothing_yet → Sensible card 0 at
 sensible_first card at e = record {
@@ -33,8 +42,11 @@ stands_first card closure at w e = record {
   fits = λ lt. absurd (omega arith);
 }
 
-pub good : (card : Card) (closure : Closure) → WellMade card → Winning card closure → Good card
-good card closure made w = tables_win card (distance closure) (wait closure) made w.closed w.sound
+-- what the judge worked out decides whether the run is live
+pub judged_live : (card : Card) (o : Option Closure) → WellMade card → Judged card o → Decides (is_some o) (Good card)
+judged_live card (Some t) made w = (λ _. tables_win card (distance t) (wait t) made w.closed w.sound, λ _. refl)
+judged_live card None made d = (λ e. absurd (false≢true e), λ g. absurd (loops_lose card made d.kind d.point d.weight (derived_wider (λ e h. tt) d.loop) d.negative g))
 
-pub lost : (card : Card) → WellMade card → Doomed card → Good card → ⊥
-lost card made d = loops_lose card made d.kind d.point d.weight (derived_wider (λ e h. tt) d.loop) d.negative
+pub judged_stands : (card : Card) (o : Option Closure) (at : Position) → Judged card o → at ≡ nothing_yet → IfSome o (λ t. Standing card t 0 at)
+judged_stands card (Some t) at w e = stands_first card t at w e
+judged_stands card None at d e = tt

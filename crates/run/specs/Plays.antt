@@ -20,10 +20,10 @@ pub data Fault (s : Stage) (spans : List Track) (places : ℕ) : Refusal → Typ
 
 -- The minute was played: no reason against it applies, the run and the kitchen go on by the rules, and the list begins with the minute's events.
 pub record Accepted {K : Type 0} (means : Meaning K) (r r' : Run) (k l : K) (list list' : List ℕ) (count : ℕ) : Type 0 where
-  pub was_live : r.live ≡ true
+  pub was_live : (stage r).live ≡ true
   pub ready : Ready (stage r).card (stage r).next (stage r).position (means.spans k) (length list)
   pub card : r'.card ≡ r.card
-  pub live : r'.live ≡ r.live
+  pub live : (stage r').live ≡ (stage r).live
   pub next : r'.next ≡ r.next + 1
   pub played : Played means (stage r).card (stage r).next (stage r).position (stage r').position k l
   pub listed : list' ≡ written list 0 (events (stage r).card (stage r').position (stage r).next)

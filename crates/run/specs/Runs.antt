@@ -1,5 +1,5 @@
 -- A run as the rules see it.
-use Rattle.std.specs.Prelude.{◌≡◌, ℕ, Bool, cond, Ok, Err, Decides, Option, Result, nat_lt}
+use Rattle.std.specs.Prelude.{◌≡◌, ℕ, Bool, true, cond, Ok, Err, Decides, Option, Result, is_some, nat_lt}
 use Rattle.rules.specs.declared.refusal.Refusal.{Refusal}
 use Rattle.rules.specs.declared.refusal.Refusal.TheVariants.{NoPoint}
 use Rattle.rules.specs.Card.{Card}
@@ -16,7 +16,11 @@ pub record Stage : Type 0 where
   pub position : Position
 
 abbrev pub stage : Run → Stage
-stage r = record { card = model r.card.network.content; live = r.live; next = r.next; position = at r.minutes }
+stage r = record { card = model r.card.network.content; live = is_some r.closure; next = r.next; position = at r.position.minutes }
+
+-- a live run of the card before minute t, at this position
+abbrev pub live_at : Card → ℕ → Position → Stage
+live_at card t at = record { card = card; live = true; next = t; position = at }
 
 -- a run of the card that has just begun: it is live exactly if the card is good, and nothing has happened
 pub record Begun (card : Card) (s : Stage) : Type 0 where

@@ -1,5 +1,5 @@
 -- Whole runs: what can have become of a run since it began, and what then holds.
-use Rattle.std.specs.Prelude.{◌≡◌, ℕ, suc, ◌-◌, ◌<◌, ◌≤◌, true, List, Some}
+use Rattle.std.specs.Prelude.{◌≡◌, ℕ, suc, ◌-◌, ◌<◌, ◌≤◌, List, Some}
 use Rattle.rules.specs.declared.refusal.Refusal.{Refusal}
 use Rattle.rules.specs.Card.{Card, WellMade}
 use Rattle.rules.specs.Game.{Position, Good, Win, Done}
@@ -8,7 +8,7 @@ use Rattle.kitchen.specs.Kitchens.{Lawful}
 use Rattle.minute.specs.Minutes.{nothing_yet}
 use Rattle.minute.specs.Meets.{FitsCard, Agrees}
 use Rattle.minute.specs.Played.{Meaning, meaning, Minute}
-use Rattle.run.specs.Runs.{Stage}
+use Rattle.run.specs.Runs.{Stage, live_at}
 use Rattle.run.specs.Plays.{Fault}
 
 -- a kitchen of which only the spans are known
@@ -44,7 +44,7 @@ pub record Kept (card : Card) (t : ℕ) (at : Position) : Type 0 where
   pub partner : (then : Position) (spans left : List Track) → t ≤ card.horizon → Partner card t at spans → Minute bare card t at then spans left → Partner card (suc t) then left
   -- and no minute up to the last is refused for it, with room for the list
   pub accepted : (spans : List Track) (places : ℕ) → t ≤ card.horizon → Partner card t at spans → 32 ≤ places
-      → (why : Refusal) → Fault (record { card = card; live = true; next = t; position = at }) spans places why → ⊥
+      → (why : Refusal) → Fault (live_at card t at) spans places why → ⊥
 
 -- However a run on a good card has gone, this holds.
 abbrev pub RunsWin : Type 0

@@ -1,45 +1,22 @@
-use Rattle.std.proofs.Common.{None, ap, subst}
-use Rattle.std.proofs.lemmas.Bool.{both_ways}
+use Rattle.std.proofs.Common.{refl, subst}
 use Rattle.network.specs.declared.network.Network.{Network}
 use Rattle.network.specs.Model.{model}
 use Rattle.network.proofs.Made.{well_made}
-use Rattle.judge.specs.Closures.{Winning}
+use Rattle.minute.specs.Minutes.{at}
 use Rattle.judge.specs.Closing.{Judged}
-use Rattle.run.specs.Runs.{stage}
-use Rattle.run.proofs.Stand.{good, lost}
+use Rattle.run.proofs.Stand.{judged_live}
 use Rattle.run.proofs.History.{history_first}
 use Rattle.run.proofs.run.Run.begin.Goals as goal
 
-pub fresh-requires : goal.fresh-requires
-fresh-requires c = λ _. subst (λ (n : Network). Winning (model n.content) c.in-Some.closure) c.network.ensures c.in-Some.ensures
-
-pub returns-in-Some : goal.returns-in-Some
-returns-in-Some c =
+pub returns-clause-begun : goal.returns-clause-begun
+returns-clause-begun c =
     let n = c.args.card.network in
     record {
-      card = c.fresh.ensures.card;
-      begun = record {
-        card_is = ap (λ x. model x.network.content) c.fresh.ensures.card;
-        live = (λ _. good (model n.content) c.in-Some.closure (well_made n) (subst (λ (m : Network). Winning (model m.content) c.in-Some.closure) c.network.ensures c.in-Some.ensures), λ _. c.fresh.ensures.live);
-        next = c.fresh.ensures.next;
-        nothing = c.fresh.ensures.nothing;
-      };
-      history = history_first (stage c.fresh.result) c.fresh.ensures.next c.fresh.ensures.nothing;
+      card_is = refl;
+      live = judged_live (model n.content) c.judge-closure.result (well_made n) (subst (λ (m : Network). Judged (model m.content) c.judge-closure.result) c.network.ensures c.judge-closure.ensures);
+      next = refl;
+      nothing = c.new.ensures;
     }
 
-pub returns-in-None : goal.returns-in-None
-returns-in-None c =
-    let n = c.args.card.network in
-    record {
-      card = c.fresh-in-None.ensures.card;
-      begun = record {
-        card_is = ap (λ x. model x.network.content) c.fresh-in-None.ensures.card;
-        live = (
-          λ e. absurd (both_ways _ c.fresh-in-None.ensures.live e),
-          λ g. absurd (lost (model n.content) (well_made n) (subst (λ (m : Network). Judged (model m.content) None) c.network.ensures c.in-None.ensures) g),
-        );
-        next = c.fresh-in-None.ensures.next;
-        nothing = c.fresh-in-None.ensures.nothing;
-      };
-      history = history_first (stage c.fresh-in-None.result) c.fresh-in-None.ensures.next c.fresh-in-None.ensures.nothing;
-    }
+pub returns-clause-history : goal.returns-clause-history
+returns-clause-history c = history_first (model c.args.card.network.content) (at c.new.result.minutes) c.new.ensures
