@@ -1,153 +1,215 @@
 //! A line of a script, read.
-use crate::numbers::{read_number, to_i16, to_places, to_u8, to_u16, to_u64};
+use crate::errors::CommandError;
+use crate::numbers::read_number;
 use rules::parts::Tie;
+use std::alloc::Global;
 
 /// The places of a list of steps, where none are asked for.
-const EXPLAIN_PLACES: u32 = 4096;
+const EXPLAIN_PLACES: usize = 4096;
+
+/// No explanation needs more places.
+const MOST_PLACES: usize = 6_637_824;
 
 /// What a line asks for.
-#[derive(Clone, Copy)]
+#[derive(Drop)]
 pub enum Command<'a> {
-    /// A blank line or a comment.
-    Nothing,
-    Open(u16),
-    Order(&'a str),
-    Span(u8, u16, u16, &'a str),
-    AddTie(Tie),
+    /// The card in print, in any state.
+    Show,
+    Change(StateChange),
+    Open(OpenCommand<'a>),
+    Closed(ClosedCommand<'a>),
+    Run(RunCommand),
+    Kitchen(KitchenCommand),
+}
+
+/// The card goes into another state.
+#[derive(Clone, Copy)]
+pub enum StateChange {
     Close,
     Reopen,
-    Show,
-    /// The words after the first are the steps.
-    Steps,
+    Begin,
+    End,
+}
+
+/// What an open card takes.
+#[derive(Clone, Copy)]
+pub enum OpenCommand<'a> {
+    Open {
+        horizon: u16,
+    },
+    Order {
+        name: &'a str,
+    },
+    Span {
+        start: u8,
+        least: u16,
+        most: u16,
+        name: &'a str,
+    },
+    Tie(Tie),
+}
+
+/// What a closed card takes.
+#[derive(Clone, Copy)]
+pub enum ClosedCommand<'a> {
+    /// The words of the steps: the edges that they make depend on the card.
+    Steps(&'a [&'a str]),
     Distances,
     Check,
     Try(Tie),
     Stretch,
     /// In a list of so many places.
-    Explain(u32),
-    Begin,
+    Explain { places: usize },
+}
+
+/// What a run takes.
+#[derive(Clone, Copy)]
+pub enum RunCommand {
     /// So many minutes, or all that are left.
-    Play(Option<u64>),
-    Ask(u8),
-    End,
-    /// The words after the first say which.
-    MakeKitchen,
-    /// The words after the first are the rests.
-    Rest,
+    Play { minutes: Option<u64> },
+    Ask { point: u8 },
+}
+
+/// What the kitchen takes, in any state of the card.
+#[derive(Drop)]
+pub enum KitchenCommand {
+    /// A kitchen of these durations.
+    Noted(Vec<u16>),
+    /// A kitchen of these bounds, least and most.
+    Contrary(Vec<(u16, u16)>),
+    /// Rests to lay over the kitchen.
+    Rest(Vec<u16>),
     Clock,
-    /// A known command with a missing, malformed or additional word.
-    Unreadable,
-    Unknown,
 }
 
-fn word<'a>(words: &[&'a str], place: usize) -> Option<&'a str> {
-    if place >= words.len() {
-        return None;
+/// The command of a line's words; none for a blank line or a comment.
+pub fn read_command<'a>(
+    alloc: Global,
+    words: &'a [&'a str],
+) -> Result<Option<Command<'a>>, CommandError> {
+    Ok(Some(match words {
+        [] => return Ok(None),
+        [first, ..] if first.starts_with('#') => return Ok(None),
+        ["show"] => Command::Show,
+        ["show", ..] => return Err(CommandError::Unreadable),
+        ["close" | "reopen" | "begin" | "end", ..] => Command::Change(read_change(words)?),
+        ["open" | "order" | "span" | "tie", ..] => Command::Open(read_open(words)?),
+        [
+            "steps" | "distances" | "check" | "try" | "stretch" | "explain",
+            ..
+        ] => { Command::Closed(read_closed(words)?) }
+        ["play" | "ask", ..] => Command::Run(read_run(words)?),
+        ["kitchen" | "rest" | "clock", ..] => Command::Kitchen(read_kitchen(alloc, words)?),
+        _ => return Err(CommandError::Unknown),
+    }))
+}
+
+fn read_change(words: &[&str]) -> Result<StateChange, CommandError> {
+    match words {
+        ["close"] => Ok(StateChange::Close),
+        ["reopen"] => Ok(StateChange::Reopen),
+        ["begin"] => Ok(StateChange::Begin),
+        ["end"] => Ok(StateChange::End),
+        _ => Err(CommandError::Unreadable),
     }
-    Some(words[place])
 }
 
-fn number(words: &[&str], place: usize) -> Option<i64> {
-    read_number(word(words, place)?)
+fn read_tie(from: &str, to: &str, gap: &str) -> Result<Tie, CommandError> {
+    Ok(Tie {
+        from: read_number(from, u8::MAX)?,
+        to: read_number(to, u8::MAX)?,
+        gap: read_number(gap, i16::MAX)?,
+    })
 }
 
-/// The command, if the line has no more words than it takes.
-fn within<'a>(words: &[&str], most: usize, command: Command<'a>) -> Option<Command<'a>> {
-    if words.len() > most {
-        return None;
-    }
-    Some(command)
+fn read_open<'a>(words: &[&'a str]) -> Result<OpenCommand<'a>, CommandError> {
+    Ok(match words {
+        ["open", horizon] => OpenCommand::Open {
+            horizon: read_number(horizon, u16::MAX)?,
+        },
+        ["order"] => OpenCommand::Order { name: "" },
+        ["order", name] => OpenCommand::Order { name: *name },
+        ["span", start, least, most] => read_span(start, least, most, "")?,
+        ["span", start, least, most, name] => read_span(start, least, most, name)?,
+        ["tie", from, to, gap] => OpenCommand::Tie(read_tie(from, to, gap)?),
+        _ => return Err(CommandError::Unreadable),
+    })
 }
 
-fn read_open<'a>(words: &[&'a str]) -> Option<Command<'a>> {
-    let horizon = to_u16(number(words, 1)?);
-    within(words, 2, Command::Open(horizon))
+fn read_span<'a>(
+    start: &str,
+    least: &str,
+    most: &str,
+    name: &'a str,
+) -> Result<OpenCommand<'a>, CommandError> {
+    Ok(OpenCommand::Span {
+        start: read_number(start, u8::MAX)?,
+        least: read_number(least, u16::MAX)?,
+        most: read_number(most, u16::MAX)?,
+        name,
+    })
 }
 
-fn read_order<'a>(words: &[&'a str]) -> Option<Command<'a>> {
-    let name = word(words, 1).unwrap_or("");
-    within(words, 2, Command::Order(name))
+fn read_closed<'a>(words: &'a [&'a str]) -> Result<ClosedCommand<'a>, CommandError> {
+    Ok(match words {
+        ["steps", steps @ ..] => ClosedCommand::Steps(steps),
+        ["distances"] => ClosedCommand::Distances,
+        ["check"] => ClosedCommand::Check,
+        ["try", from, to, gap] => ClosedCommand::Try(read_tie(from, to, gap)?),
+        ["stretch"] => ClosedCommand::Stretch,
+        ["explain"] => ClosedCommand::Explain {
+            places: EXPLAIN_PLACES,
+        },
+        ["explain", places] => ClosedCommand::Explain {
+            places: read_number(places, 0usize)?.min(MOST_PLACES),
+        },
+        _ => return Err(CommandError::Unreadable),
+    })
 }
 
-fn read_span<'a>(words: &[&'a str]) -> Option<Command<'a>> {
-    let start = to_u8(number(words, 1)?);
-    let least = to_u16(number(words, 2)?);
-    let most = to_u16(number(words, 3)?);
-    let name = word(words, 4).unwrap_or("");
-    within(words, 5, Command::Span(start, least, most, name))
+fn read_run(words: &[&str]) -> Result<RunCommand, CommandError> {
+    Ok(match words {
+        ["play"] => RunCommand::Play { minutes: Some(1) },
+        ["play", "all"] => RunCommand::Play { minutes: None },
+        ["play", minutes] => RunCommand::Play {
+            minutes: Some(read_number(minutes, 0)?),
+        },
+        ["ask", point] => RunCommand::Ask {
+            point: read_number(point, u8::MAX)?,
+        },
+        _ => return Err(CommandError::Unreadable),
+    })
 }
 
-fn read_tie(words: &[&str]) -> Option<Tie> {
-    let from = to_u8(number(words, 1)?);
-    let to = to_u8(number(words, 2)?);
-    let gap = to_i16(number(words, 3)?);
-    Some(Tie { from, to, gap })
+fn read_minutes(alloc: Global, words: &[&str]) -> Result<Vec<u16>, CommandError> {
+    words
+        .iter()
+        .map(|word| read_number(word, u16::MAX))
+        .try_collect(alloc)
 }
 
-fn read_add_tie<'a>(words: &[&'a str]) -> Option<Command<'a>> {
-    let tie = read_tie(words)?;
-    within(words, 4, Command::AddTie(tie))
-}
-
-fn read_try<'a>(words: &[&'a str]) -> Option<Command<'a>> {
-    let tie = read_tie(words)?;
-    within(words, 4, Command::Try(tie))
-}
-
-/// `explain` or `explain N`.
-fn read_explain<'a>(words: &[&'a str]) -> Option<Command<'a>> {
-    let places = match word(words, 1) {
-        None => EXPLAIN_PLACES,
-        Some(count) => to_places(read_number(count)?),
+fn read_bounds(alloc: Global, words: &[&str]) -> Result<Vec<(u16, u16)>, CommandError> {
+    let (pairs, []) = words.as_chunks::<2>() else {
+        return Err(CommandError::Unreadable);
     };
-    within(words, 2, Command::Explain(places))
+    pairs
+        .iter()
+        .map(|[least, most]| -> Result<(u16, u16), CommandError> {
+            Ok((read_number(least, u16::MAX)?, read_number(most, u16::MAX)?))
+        })
+        .try_collect(alloc)
 }
 
-/// `play`, `play N` or `play all`.
-fn read_play<'a>(words: &[&'a str]) -> Option<Command<'a>> {
-    let minutes = match word(words, 1) {
-        None => Some(1),
-        Some("all") => None,
-        Some(count) => Some(to_u64(read_number(count)?)),
-    };
-    within(words, 2, Command::Play(minutes))
-}
-
-fn read_ask<'a>(words: &[&'a str]) -> Option<Command<'a>> {
-    let point = to_u8(number(words, 1)?);
-    within(words, 2, Command::Ask(point))
-}
-
-/// The command of a line's words.
-pub fn read_command<'a>(words: &[&'a str]) -> Command<'a> {
-    let Some(first) = word(words, 0) else {
-        return Command::Nothing;
-    };
-    if first.starts_with('#') {
-        return Command::Nothing;
-    }
-    let read = match first {
-        "open" => read_open(words),
-        "order" => read_order(words),
-        "span" => read_span(words),
-        "tie" => read_add_tie(words),
-        "close" => within(words, 1, Command::Close),
-        "reopen" => within(words, 1, Command::Reopen),
-        "show" => within(words, 1, Command::Show),
-        "steps" => Some(Command::Steps),
-        "distances" => within(words, 1, Command::Distances),
-        "check" => within(words, 1, Command::Check),
-        "try" => read_try(words),
-        "stretch" => within(words, 1, Command::Stretch),
-        "explain" => read_explain(words),
-        "begin" => within(words, 1, Command::Begin),
-        "play" => read_play(words),
-        "ask" => read_ask(words),
-        "end" => within(words, 1, Command::End),
-        "kitchen" => Some(Command::MakeKitchen),
-        "rest" => Some(Command::Rest),
-        "clock" => within(words, 1, Command::Clock),
-        _ => Some(Command::Unknown),
-    };
-    read.unwrap_or(Command::Unreadable)
+fn read_kitchen(alloc: Global, words: &[&str]) -> Result<KitchenCommand, CommandError> {
+    Ok(match words {
+        ["kitchen", "noted", durations @ ..] => {
+            KitchenCommand::Noted(read_minutes(alloc, durations)?)
+        }
+        ["kitchen", "contrary", bounds @ ..] => {
+            KitchenCommand::Contrary(read_bounds(alloc, bounds)?)
+        }
+        ["rest", rests @ ..] => KitchenCommand::Rest(read_minutes(alloc, rests)?),
+        ["clock"] => KitchenCommand::Clock,
+        _ => return Err(CommandError::Unreadable),
+    })
 }

@@ -1,11 +1,11 @@
 //! The command `explain`.
+use crate::errors::CommandError;
 use crate::reading::ANY_EDGE;
-use crate::refusals::refuse;
 use card::closed::ClosedCard;
 use rules::edges::Step;
 use steps::prints::Printed;
 
-/// What stands in the places of a list before steps are written into it.
+/// What stands in the places of a list before steps are written into them.
 const NO_STEP: Step = Step {
     letter: 0,
     left: 0,
@@ -14,16 +14,17 @@ const NO_STEP: Step = Step {
 };
 
 /// Explains a bad mark in a list of so many places: the count of steps, then each step on a line.
-pub fn explain(rt: &HostRuntime, card: &ClosedCard, places: usize) -> anyhow::Result<()> {
+pub fn explain(
+    rt: &(impl Print + AllocGlobal),
+    card: &ClosedCard,
+    places: usize,
+) -> Result<(), CommandError> {
+    // The card writes into the caller's list, whose places are filled before: no call on it depends on memory.
     let mut list = vec![in rt.alloc(); NO_STEP; places]?;
-    match card.explain(list.as_mut_slice()) {
-        Ok(count) => {
-            println!(rt; "steps {count}")?;
-            for step in list.iter().take(count) {
-                println!(rt; "{}", Printed(*step))?;
-            }
-            Ok(())
-        }
-        Err(refusal) => refuse(rt, refusal),
+    let count = card.explain(list.as_mut_slice())?;
+    println!(rt; "steps {count}")?;
+    for step in list.iter().take(count) {
+        rt.println(Printed(*step))?;
     }
+    Ok(())
 }

@@ -1,31 +1,29 @@
 //! The commands `check`, `try` and `stretch`.
-use crate::refusals::refuse;
+use crate::errors::CommandError;
 use card::closed::ClosedCard;
 use judge::marking::Mark;
 use rules::parts::Tie;
 
-fn print_mark(rt: &HostRuntime, mark: Mark) -> anyhow::Result<()> {
-    match mark {
-        Mark::Good => rt.println("good")?,
-        Mark::Bad => rt.println("bad")?,
-    }
+// No Display of marks: the words are the script's, and two.
+fn print_mark(rt: &impl Print, mark: Mark) -> Result<(), CommandError> {
+    rt.println(match mark {
+        Mark::Good => "good",
+        Mark::Bad => "bad",
+    })?;
     Ok(())
 }
 
-pub fn check(rt: &HostRuntime, card: &ClosedCard) -> anyhow::Result<()> {
+pub fn check(rt: &impl Print, card: &ClosedCard) -> Result<(), CommandError> {
     print_mark(rt, card.check())
 }
 
-pub fn try_tie(rt: &HostRuntime, card: &mut ClosedCard, tie: Tie) -> anyhow::Result<()> {
-    match card.try_tie(tie) {
-        Ok(mark) => print_mark(rt, mark),
-        Err(refusal) => refuse(rt, refusal),
-    }
+pub fn try_tie(rt: &impl Print, card: &mut ClosedCard, tie: Tie) -> Result<(), CommandError> {
+    print_mark(rt, card.try_tie(tie)?)
 }
 
-pub fn stretch(rt: &HostRuntime, card: &ClosedCard) -> anyhow::Result<()> {
+pub fn stretch(rt: &impl Print, card: &ClosedCard) -> Result<(), CommandError> {
     match card.stretch() {
-        Some(horizon) => println!(rt; "{horizon}")?,
+        Some(horizon) => rt.println(horizon)?,
         None => rt.println("none")?,
     }
     Ok(())

@@ -1,6 +1,6 @@
-//! The kitchen that a script names, and the command `clock`.
-use crate::numbers::{read_number, to_u16};
-use crate::refusals::refuse;
+//! The kitchen that a script names, and the commands that it takes.
+use crate::command::KitchenCommand;
+use crate::errors::{CommandError, NotNow};
 use kitchen::contrary::Contrary;
 use kitchen::either::Either;
 use kitchen::interface::Kitchen;
@@ -8,6 +8,7 @@ use kitchen::noted::Noted;
 use kitchen::resting::Resting;
 use kitchen::track::Status;
 use rules::refusal::Refusal;
+use std::{fmt, mem};
 
 pub type Plain = Either<Noted, Contrary>;
 
@@ -21,155 +22,84 @@ pub fn no_kitchen() -> Result<ScriptKitchen, Refusal> {
     Ok(Either::First(Either::First(Noted::new(&[])?)))
 }
 
-/// The words from a place on, as numbers of minutes; none where one is malformed.
-fn minutes(rt: &HostRuntime, words: &[&str], from: usize) -> anyhow::Result<Option<Vec<u16>>> {
-    let mut list = Vec::new(rt.alloc());
-    for i in from..words.len() {
-        let Some(number) = read_number(words[i]) else {
-            return Ok(None);
-        };
-        list.push(to_u16(number))?;
-    }
-    Ok(Some(list))
-}
-
-/// The same by twos.
-fn pairs(rt: &HostRuntime, list: &[u16]) -> anyhow::Result<Option<Vec<(u16, u16)>>> {
-    let mut bounds = Vec::new(rt.alloc());
-    if list.len() % 2 != 0 {
-        return Ok(None);
-    }
-    for i in 0..list.len() / 2 {
-        bounds.push((list[2 * i], list[2 * i + 1]))?;
-    }
-    Ok(Some(bounds))
-}
-
-/// The answer to a new kitchen, which takes the place of the old one unless it is refused.
-fn answer(
-    rt: &HostRuntime,
-    kitchen: &mut ScriptKitchen,
-    made: Result<Plain, Refusal>,
-) -> anyhow::Result<()> {
-    match made {
-        Ok(plain) => {
-            *kitchen = Either::First(plain);
-            println!(rt; "kitchen {}", kitchen.count())?;
-            Ok(())
+/// Lays rests over a kitchen that rests once at most.
+fn lay_rest(kitchen: &mut ScriptKitchen, rests: &[u16]) -> Result<(), CommandError> {
+    // The place holds a kitchen of no spans until the rests are laid.
+    let (rested, answer) = match mem::replace(kitchen, no_kitchen()?) {
+        Either::First(plain) => (Either::First(Resting::over(plain, rests)), Ok(())),
+        Either::Second(Either::First(once)) => {
+            (Either::Second(Resting::over(once, rests)), Ok(()))
         }
-        Err(refusal) => refuse(rt, refusal),
-    }
-}
-
-fn unreadable(rt: &HostRuntime) -> anyhow::Result<()> {
-    rt.println("unreadable")?;
-    Ok(())
-}
-
-fn make_noted(rt: &HostRuntime, kitchen: &mut ScriptKitchen, list: &[u16]) -> anyhow::Result<()> {
-    match Noted::new(list) {
-        Ok(noted) => answer(rt, kitchen, Ok(Either::First(noted))),
-        Err(refusal) => answer(rt, kitchen, Err(refusal)),
-    }
-}
-
-fn make_contrary(
-    rt: &HostRuntime,
-    kitchen: &mut ScriptKitchen,
-    list: &[u16],
-) -> anyhow::Result<()> {
-    let Some(bounds) = pairs(rt, list)? else {
-        return unreadable(rt);
+        Either::Second(twice) => (twice, Err(CommandError::NotNow(NotNow::RestsTwice))),
     };
-    match Contrary::new(bounds.as_slice()) {
-        Ok(contrary) => answer(rt, kitchen, Ok(Either::Second(contrary))),
-        Err(refusal) => answer(rt, kitchen, Err(refusal)),
-    }
+    *kitchen = Either::Second(rested);
+    answer
 }
 
-/// `kitchen noted D ..` or `kitchen contrary L U L U ..`.
-pub fn make_kitchen(
-    rt: &HostRuntime,
-    kitchen: &mut ScriptKitchen,
-    words: &[&str],
-) -> anyhow::Result<()> {
-    if words.len() < 2 {
-        return unreadable(rt);
-    }
-    let Some(list) = minutes(rt, words, 2)? else {
-        return unreadable(rt);
-    };
-    match words[1] {
-        "noted" => make_noted(rt, kitchen, list.as_slice()),
-        "contrary" => make_contrary(rt, kitchen, list.as_slice()),
-        _ => unreadable(rt),
-    }
-}
+/// How far a span is, in print.
+#[derive(Clone, Copy)]
+struct Printed(Status);
 
-/// A second layer of rest; a third is turned down.
-fn rest_again(rt: &HostRuntime, kitchen: Rested, rests: &[u16]) -> anyhow::Result<Rested> {
-    match kitchen {
-        Either::First(once) => {
-            let rested = Resting::over(once, rests);
-            println!(rt; "kitchen {}", rested.count())?;
-            Ok(Either::Second(rested))
-        }
-        Either::Second(twice) => {
-            rt.println("not now (the kitchen rests twice)")?;
-            Ok(Either::Second(twice))
+impl fmt::Display for Printed {
+    fn fmt<W: fmt::Write>(&self, f: &mut fmt::Formatter<W>) -> fmt::Result {
+        match self.0 {
+            Status::Cold => f.write_str("cold"),
+            Status::On(minutes) => write!(f, "on({minutes})"),
+            Status::Done(minutes) => write!(f, "done({minutes})"),
         }
     }
 }
 
-/// `rest R ..`: lays rests over the present kitchen.
-pub fn lay_rest(
-    rt: &HostRuntime,
-    kitchen: ScriptKitchen,
-    words: &[&str],
-) -> anyhow::Result<ScriptKitchen> {
-    let Some(rests) = minutes(rt, words, 1)? else {
-        unreadable(rt)?;
-        return Ok(kitchen);
-    };
-    match kitchen {
-        Either::First(plain) => {
-            let rested = Resting::over(plain, rests.as_slice());
-            println!(rt; "kitchen {}", rested.count())?;
-            Ok(Either::Second(Either::First(rested)))
-        }
-        Either::Second(rested) => Ok(Either::Second(rest_again(rt, rested, rests.as_slice())?)),
-    }
-}
-
-/// Prints how far each span is, and answers whether all are done.
-fn print_statuses(rt: &HostRuntime, kitchen: &ScriptKitchen, minute: u16) -> anyhow::Result<bool> {
-    let mut all_done = true;
+/// Prints how far each span is, and answers whether some are on.
+fn print_statuses(
+    rt: &impl Print,
+    kitchen: &ScriptKitchen,
+    minute: u16,
+) -> Result<bool, CommandError> {
+    let mut some_on = false;
     print!(rt; "{minute}")?;
+    // A kitchen is asked for its spans by their numbers.
     for span in 0..kitchen.count() {
-        match kitchen.status(span) {
-            Ok(Status::Cold) => print!(rt; " cold")?,
-            Ok(Status::On(e)) => {
-                all_done = false;
-                print!(rt; " on({e})")?;
-            }
-            Ok(Status::Done(d)) => print!(rt; " done({d})")?,
-            Err(refusal) => refuse(rt, refusal)?,
-        }
+        let status = kitchen.status(span)?;
+        print!(rt; " {}", Printed(status))?;
+        some_on |= matches!(status, Status::On(_));
     }
-    println!(rt; "")?;
-    Ok(all_done)
+    rt.println("")?;
+    Ok(some_on)
 }
 
-/// `clock`: starts every span that is cold, and prints how far each is minute by minute until all are done.
-pub fn clock(rt: &HostRuntime, kitchen: &mut ScriptKitchen) -> anyhow::Result<()> {
+/// Starts every span that is cold, and prints how far each is minute by minute until all are done.
+fn clock(rt: &impl Print, kitchen: &mut ScriptKitchen) -> Result<(), CommandError> {
+    // A kitchen starts its spans by their numbers.
     for span in 0..kitchen.count() {
         let _ = kitchen.start(span);
     }
+    // A bound: that all spans end is not known of every kitchen here.
     for minute in 0..u16::MAX {
-        if print_statuses(rt, kitchen, minute)? {
+        if !print_statuses(rt, kitchen, minute)? {
             break;
         }
         kitchen.advance();
     }
+    Ok(())
+}
+
+/// Does a command on the kitchen; a kitchen that is refused leaves the present one.
+pub fn on_kitchen(
+    rt: &impl Print,
+    kitchen: &mut ScriptKitchen,
+    command: KitchenCommand,
+) -> Result<(), CommandError> {
+    match command {
+        KitchenCommand::Noted(durations) => {
+            *kitchen = Either::First(Either::First(Noted::new(durations.as_slice())?));
+        }
+        KitchenCommand::Contrary(bounds) => {
+            *kitchen = Either::First(Either::Second(Contrary::new(bounds.as_slice())?));
+        }
+        KitchenCommand::Rest(rests) => lay_rest(kitchen, rests.as_slice())?,
+        KitchenCommand::Clock => return clock(rt, kitchen),
+    }
+    println!(rt; "kitchen {}", kitchen.count())?;
     Ok(())
 }

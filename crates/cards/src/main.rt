@@ -2,53 +2,45 @@
 #![tactic(auto)]
 
 mod command;
+mod errors;
 mod explaining;
 mod judging;
 mod kitchens;
+mod names;
 mod numbers;
 mod reading;
-mod refusals;
 mod running;
 mod session;
 mod show;
 mod tables;
 
-use card::open::OpenCard;
-use command::{Command, read_command};
-use kitchens::no_kitchen;
-use session::{Held, Names, on_card, on_kitchen};
+use command::read_command;
+use errors::CommandError;
+use session::Session;
 
-fn run(rt: &HostRuntime) -> anyhow::Result<()> {
-    let heap = rt.alloc();
-    let mut held = Held::Open(OpenCard::new());
-    let Ok(mut kitchen) = no_kitchen() else {
-        return Ok(());
-    };
-    let mut names = Names {
-        list: Vec::new(heap),
-    };
-    names.list.push(String::from_str(heap, "")?)?;
-    for line in rt.lines(heap) {
+/// Does the command of a line.
+fn execute(
+    rt: &(impl Print + AllocGlobal),
+    session: &mut Session,
+    line: &str,
+) -> Result<(), CommandError> {
+    let words: Vec<&str> = line.split_whitespace().collect(rt.alloc())?;
+    match read_command(rt.alloc(), words.as_slice())? {
+        Some(command) => session.execute(rt, command),
+        None => Ok(()),
+    }
+}
+
+fn run(rt: &(impl Input + Print + AllocGlobal)) -> anyhow::Result<()> {
+    let mut session = Session::new(rt.alloc())?;
+    for line in rt.lines(rt.alloc()) {
         let line = line?;
-        let words: Vec<&str> = line.as_str().split_whitespace().collect(heap)?;
-        let command = read_command(words.as_slice());
-        match command {
-            Command::Nothing => {}
-            Command::MakeKitchen
-            | Command::Rest
-            | Command::Clock
-            | Command::Unknown
-            | Command::Unreadable => {
-                kitchen = on_kitchen(rt, kitchen, command, words.as_slice())?;
+        match execute(rt, &mut session, line.as_str()) {
+            Ok(()) => {}
+            Err(error @ (CommandError::Memory(_) | CommandError::Output(_))) => {
+                return Err(error.into());
             }
-            _ => held = on_card(
-                rt,
-                held,
-                &mut kitchen,
-                &mut names,
-                command,
-                words.as_slice(),
-            )?,
+            Err(refused) => rt.println(refused)?,
         }
     }
     Ok(())

@@ -1,8 +1,9 @@
 //! The command `steps`: a list of steps, each by its letter, left and right.
-use crate::numbers::{read_number, to_u32};
-use crate::refusals::refuse;
+use crate::errors::CommandError;
+use crate::numbers::read_number;
 use card::closed::ClosedCard;
 use rules::edges::{Edge, Kind, Step};
+use std::alloc::Global;
 
 /// What stands for the edge of a step that is unlawful whatever it makes.
 pub const ANY_EDGE: Edge = Edge {
@@ -13,10 +14,10 @@ pub const ANY_EDGE: Edge = Edge {
 };
 
 /// A letter's code, if the word is one letter.
-fn read_letter(word: &str) -> Option<u8> {
+fn read_letter(word: &str) -> Result<u8, CommandError> {
     match word.as_bytes() {
-        [letter] => Some(*letter),
-        _ => None,
+        [letter] => Ok(*letter),
+        _ => Err(CommandError::Unreadable),
     }
 }
 
@@ -24,17 +25,15 @@ fn read_letter(word: &str) -> Option<u8> {
 fn read_step(
     card: &ClosedCard,
     steps: &[Step],
-    letter: &str,
-    left: &str,
-    right: &str,
-) -> Option<Step> {
+    [letter, left, right]: [&str; 3],
+) -> Result<Step, CommandError> {
     let letter = read_letter(letter)?;
-    let left = to_u32(read_number(left)?);
-    let right = to_u32(read_number(right)?);
+    let left = read_number(left, u32::MAX)?;
+    let right = read_number(right, u32::MAX)?;
     let makes = card
         .next_edge(steps, letter, left, right)
         .unwrap_or(ANY_EDGE);
-    Some(Step {
+    Ok(Step {
         letter,
         left,
         right,
@@ -42,42 +41,27 @@ fn read_step(
     })
 }
 
-/// Reads the words after the first as steps; none where a word is missing or malformed.
-fn read_list(
-    rt: &HostRuntime,
-    card: &ClosedCard,
-    words: &[&str],
-) -> anyhow::Result<Option<Vec<Step>>> {
-    let mut steps = Vec::new(rt.alloc());
-    if words.len() % 3 != 1 {
-        return Ok(None);
-    }
-    for i in 0..words.len() / 3 {
-        let Some(step) = read_step(
-            card,
-            steps.as_slice(),
-            words[3 * i + 1],
-            words[3 * i + 2],
-            words[3 * i + 3],
-        ) else {
-            return Ok(None);
-        };
+/// Reads words as steps, three to a step.
+fn read_list(alloc: Global, card: &ClosedCard, words: &[&str]) -> Result<Vec<Step>, CommandError> {
+    let (triples, []) = words.as_chunks::<3>() else {
+        return Err(CommandError::Unreadable);
+    };
+    let mut steps = Vec::new(alloc);
+    for triple in triples {
+        let step = read_step(card, steps.as_slice(), *triple)?;
         steps.push(step)?;
     }
-    Ok(Some(steps))
+    Ok(steps)
 }
 
-/// Reads a list of steps on the card, and prints what comes of it.
-pub fn read_steps(rt: &HostRuntime, card: &ClosedCard, words: &[&str]) -> anyhow::Result<()> {
-    let Some(steps) = read_list(rt, card, words)? else {
-        rt.println("unreadable")?;
-        return Ok(());
-    };
-    match card.read(steps.as_slice()) {
-        Ok(()) => {
-            rt.println("passes")?;
-            Ok(())
-        }
-        Err(refusal) => refuse(rt, refusal),
-    }
+/// Reads a list of steps on the card.
+pub fn read_steps(
+    rt: &(impl Print + AllocGlobal),
+    card: &ClosedCard,
+    words: &[&str],
+) -> Result<(), CommandError> {
+    let steps = read_list(rt.alloc(), card, words)?;
+    card.read(steps.as_slice())?;
+    rt.println("passes")?;
+    Ok(())
 }

@@ -1,16 +1,19 @@
 //! Random step lists over random small cards: the reader against the one that was written on its own.
-use crate::lists::{NO_STEP, first, read};
 use crate::random::Random;
-use crate::reader;
-use crate::reader::{NO_EDGE, Parts};
+use crate::reader::{Parts, Reader};
 use crate::tally::Tally;
 use card::closed::ClosedCard;
 use card::open::OpenCard;
 use rules::edges::{Edge, Kind, Step};
 use rules::parts::{Span, Tie};
+use rules::refusal::Refusal;
+use std::alloc::{AllocError, Global};
+
+/// The longest list that is tried.
+const STEPS: usize = 16;
 
 /// How many lists passed, and how many did not close.
-#[derive(Clone, Copy)]
+#[derive(Clone, Copy, Default)]
 pub struct Outcome {
     pub tally: Tally,
     pub passed: u32,
@@ -55,14 +58,38 @@ fn build(parts: Parts) -> ClosedCard {
 
 const KINDS: [Kind; 4] = [Kind::Plain, Kind::AllMost, Kind::Wait(0), Kind::Wait(1)];
 
+/// A step but for the edge that it makes.
+#[derive(Clone, Copy)]
+struct Join {
+    // a number, as a step keeps it
+    letter: u8,
+    left: u32,
+    right: u32,
+}
+
+impl Join {
+    fn making(self, makes: Edge) -> Step {
+        Step {
+            letter: self.letter,
+            left: self.left,
+            right: self.right,
+            makes,
+        }
+    }
+}
+
 /// Whether the step is lawful with an edge of some kind, over both edges in a row or over the left one.
-fn some_lawful(parts: Parts, edges: &[Edge], count: usize, step: Step) -> bool {
-    let left = edges.get(step.left as usize).copied().unwrap_or(NO_EDGE);
-    let right = edges.get(step.right as usize).copied().unwrap_or(NO_EDGE);
+fn some_lawful(reader: &Reader, steps: &[Step], join: Join) -> bool {
+    let Some(left) = reader.edge(steps, join.left) else {
+        return false;
+    };
+    let Some(right) = reader.edge(steps, join.right) else {
+        return false;
+    };
     let weight = left.weight.saturating_add(right.weight);
-    for i in 0..4 {
+    KINDS.iter().any(|kind| {
         let over = Edge {
-            kind: KINDS[i],
+            kind: *kind,
             ..left
         };
         let row = Edge {
@@ -70,131 +97,88 @@ fn some_lawful(parts: Parts, edges: &[Edge], count: usize, step: Step) -> bool {
             weight,
             ..over
         };
-        if reader::is_lawful(
-            parts,
-            edges,
-            count,
-            Step {
-                makes: over,
-                ..step
-            },
-        ) {
-            return true;
-        }
-        if reader::is_lawful(parts, edges, count, Step { makes: row, ..step }) {
-            return true;
-        }
-    }
-    false
+        reader.is_lawful(steps, join.making(over)) || reader.is_lawful(steps, join.making(row))
+    })
 }
 
 /// Whether the answer for a next step is right: the edge makes it lawful, and where there is none, no edge at hand does.
-fn is_right(parts: Parts, edges: &[Edge], count: usize, step: Step, answer: Option<Edge>) -> bool {
+fn is_right(reader: &Reader, steps: &[Step], join: Join, answer: Option<Edge>) -> bool {
     match answer {
-        Some(makes) => reader::is_lawful(parts, edges, count, Step { makes, ..step }),
-        None => !some_lawful(parts, edges, count, step),
+        Some(makes) => reader.is_lawful(steps, join.making(makes)),
+        None => !some_lawful(reader, steps, join),
     }
 }
 
-const LETTERS: [u8; 8] = [b'N', b'U', b'L', b'X', b'R', b'M', b'S', b'A'];
+const LETTERS: [u8; 8] = *b"NULXRMSA";
 
-/// A step over some of the first edges, or one past them; R and M mostly repeat the left number.
-fn some_step(random: &mut Random, count: usize) -> Step {
+/// Edges joined over some of the first edges, or one past them; R and M mostly repeat the left number.
+fn some_join(random: &mut Random, count: usize) -> Join {
     let limit = u8::try_from(count).unwrap_or(255).saturating_add(1);
     let letter = LETTERS[usize::from(random.below(8) & 7)];
     let left = u32::from(random.below(limit));
     let right = u32::from(random.below(limit));
     let repeats = (letter == b'R' || letter == b'M') && random.below(8) != 0;
-    Step {
+    Join {
         letter,
         left,
         right: if repeats { left } else { right },
-        makes: NO_EDGE,
     }
 }
 
-/// Fills the list by steps that the card makes edges for, and answers how many there are.
-fn fill(
+/// A list of steps that the card makes edges for.
+fn some_list(
+    alloc: Global,
     tally: &mut Tally,
     random: &mut Random,
     card: &ClosedCard,
-    parts: Parts,
-    edges: &mut [Edge],
-    steps: &mut [Step],
-) -> usize {
-    let mut known = reader::put_given(parts, edges);
-    let mut count = 0;
+    reader: &Reader,
+) -> Result<Vec<Step>, AllocError> {
+    let mut steps = Vec::new(alloc);
     for _ in 0..100 {
-        let step = some_step(random, known);
-        let answer = card.next_edge(first(steps, count), step.letter, step.left, step.right);
-        tally.note(is_right(parts, edges, known, step, answer));
-        if let Some(makes) = answer {
-            if count < steps.len() {
-                steps[count] = Step { makes, ..step };
-                count += 1;
-                known = reader::put(edges, known, makes);
-            }
+        let join = some_join(random, reader.known(steps.as_slice()));
+        let answer = card.next_edge(steps.as_slice(), join.letter, join.left, join.right);
+        tally.note(is_right(reader, steps.as_slice(), join, answer));
+        if let Some(makes) = answer
+            && steps.len() < STEPS
+        {
+            steps.push(join.making(makes))?;
         }
     }
-    count
+    Ok(steps)
 }
 
-/// Turns a part of one step.
+/// Turns a part of one step, if the list has the step.
 fn spoil(random: &mut Random, steps: &mut [Step]) {
     let place = usize::from(random.below(16));
-    if place >= steps.len() {
+    let other = some_join(random, 30);
+    let part = random.below(5);
+    let Some(step) = steps.get_mut(place) else {
         return;
-    }
-    let step = steps[place];
-    let other = some_step(random, 30);
-    let makes = step.makes;
-    steps[place] = match random.below(5) {
-        0 => Step {
-            letter: other.letter,
-            ..step
-        },
-        1 => Step {
-            left: other.left,
-            ..step
-        },
-        2 => Step {
-            right: other.right,
-            ..step
-        },
-        3 => Step {
-            makes: Edge {
-                weight: makes.weight.saturating_add(1),
-                ..makes
-            },
-            ..step
-        },
-        _ => Step {
-            makes: Edge {
-                target: makes.target ^ 1,
-                ..makes
-            },
-            ..step
-        },
     };
+    match part {
+        0 => step.letter = other.letter,
+        1 => step.left = other.left,
+        2 => step.right = other.right,
+        3 => step.makes.weight = step.makes.weight.saturating_add(1),
+        _ => step.makes.target ^= 1,
+    }
 }
 
 /// Reads each beginning of the list by both readers.
-fn compare(outcome: &mut Outcome, card: &ClosedCard, parts: Parts, steps: &[Step], count: usize) {
-    for end in 0..count {
-        let answer = read(card, first(steps, end));
-        outcome
-            .tally
-            .note(answer == reader::read(parts, first(steps, end)));
-        if answer == -1 {
-            outcome.passed = outcome.passed.saturating_add(1);
-        }
-        if answer == -2 {
-            outcome.unclosed = outcome.unclosed.saturating_add(1);
+fn compare(outcome: &mut Outcome, card: &ClosedCard, reader: &Reader, steps: &[Step]) {
+    // A beginning is told by where it ends.
+    for end in 0..steps.len() {
+        let answer = card.read(&steps[..end]);
+        outcome.tally.note(answer == reader.read(&steps[..end]));
+        match answer {
+            Ok(()) => outcome.passed = outcome.passed.saturating_add(1),
+            Err(Refusal::NoLoop) => outcome.unclosed = outcome.unclosed.saturating_add(1),
+            Err(_) => {}
         }
     }
 }
 
-fn try_card(outcome: &mut Outcome, random: &mut Random) {
+fn try_card(alloc: Global, outcome: &mut Outcome, random: &mut Random) -> Result<(), AllocError> {
     let spans = [some_span(random, 2), some_span(random, 3)];
     let ties = [some_tie(random), some_tie(random), some_tie(random)];
     let parts = Parts {
@@ -204,26 +188,20 @@ fn try_card(outcome: &mut Outcome, random: &mut Random) {
         ties: &ties,
     };
     let card = build(parts);
-    let mut steps = [NO_STEP; 16];
-    let mut tally = outcome.tally;
-    let mut edges = [NO_EDGE; 64];
-    let count = fill(&mut tally, random, &card, parts, &mut edges, &mut steps);
-    outcome.tally = tally;
-    compare(outcome, &card, parts, &steps, count);
-    spoil(random, &mut steps);
-    compare(outcome, &card, parts, &steps, count);
+    let reader = Reader::new(alloc, parts)?;
+    let mut steps = some_list(alloc, &mut outcome.tally, random, &card, &reader)?;
+    compare(outcome, &card, &reader, steps.as_slice());
+    spoil(random, steps.as_mut_slice());
+    compare(outcome, &card, &reader, steps.as_slice());
+    Ok(())
 }
 
 /// Tries so many cards.
-pub fn try_cards(cards: u32) -> Outcome {
+pub fn try_cards(alloc: Global, cards: u32) -> Result<Outcome, AllocError> {
     let mut random = Random { state: 20 };
-    let mut outcome = Outcome {
-        tally: Tally::new(),
-        passed: 0,
-        unclosed: 0,
-    };
+    let mut outcome = Outcome::default();
     for _ in 0..cards {
-        try_card(&mut outcome, &mut random);
+        try_card(alloc, &mut outcome, &mut random)?;
     }
-    outcome
+    Ok(outcome)
 }

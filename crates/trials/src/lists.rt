@@ -1,5 +1,4 @@
 //! Step lists by hand: what the reader says to each.
-use crate::reader::NO_EDGE;
 use crate::tally::Tally;
 use card::closed::ClosedCard;
 use card::open::OpenCard;
@@ -7,88 +6,22 @@ use rules::edges::{Edge, Kind, Step};
 use rules::parts::Tie;
 use rules::refusal::Refusal;
 
-pub const NO_STEP: Step = Step {
-    letter: 0,
-    left: 0,
-    right: 0,
-    makes: NO_EDGE,
-};
-
-/// The first steps of a list.
-pub fn first(steps: &[Step], count: usize) -> &[Step] {
-    if count > steps.len() {
-        return steps;
-    }
-    &steps[0..count]
-}
-
-/// What the card says to a list: -1 if it passes, -2 if it does not close, or the place of its first unlawful step.
-pub fn read(card: &ClosedCard, steps: &[Step]) -> i32 {
-    match card.read(steps) {
-        Ok(()) => -1,
-        Err(Refusal::StepUnlawful(place)) => i32::try_from(place).unwrap_or(i32::MAX),
-        Err(Refusal::NoLoop) => -2,
-        Err(_) => -3,
-    }
-}
-
-/// Adds the step with the edge that it makes, and answers the next place; a step that makes none is left out.
-pub fn add(
-    card: &ClosedCard,
-    steps: &mut [Step],
-    count: usize,
-    letter: u8,
-    left: u32,
-    right: u32,
-) -> usize {
-    if count >= steps.len() {
-        return count;
-    }
-    match card.next_edge(first(steps, count), letter, left, right) {
-        Some(makes) => {
-            steps[count] = Step {
-                letter,
-                left,
-                right,
-                makes,
-            };
-            count + 1
-        }
-        None => count,
-    }
-}
-
 /// Spans from 0 of 2 to 3 with the finishes 1 and 2, and ties from finish to finish. Given: 0 to 3 of the points, 4 to 7 and 8 to 11 of the
 /// spans (lower 6 and 10, wait 7 and 11), 12 and 13 of the ties.
 fn two_spans() -> ClosedCard {
     let mut card = OpenCard::new();
     let _ = card.open(9);
-    let _ = card.add_span(0, 2, 3);
-    let _ = card.add_span(0, 2, 3);
-    let _ = card.add_tie(Tie {
-        from: 1,
-        to: 2,
-        gap: 1,
-    });
-    let _ = card.add_tie(Tie {
-        from: 1,
-        to: 2,
-        gap: 1,
-    });
+    for _ in 0..2 {
+        let _ = card.add_span(0, 2, 3);
+    }
+    for _ in 0..2 {
+        let _ = card.add_tie(Tie {
+            from: 1,
+            to: 2,
+            gap: 1,
+        });
+    }
     card.close()
-}
-
-/// A list of the step U 12 11, which makes edge 14, wait 1 to 0 of -2 for span 1, and of this one.
-fn after_wait(card: &ClosedCard, letter: u8, left: u32, right: u32, makes: Edge) -> i32 {
-    let mut steps = [NO_STEP; 2];
-    let _ = add(card, &mut steps, 0, b'U', 12, 11);
-    steps[1] = Step {
-        letter,
-        left,
-        right,
-        makes,
-    };
-    read(card, &steps)
 }
 
 fn wait(span: u8, source: u8, weight: i32) -> Edge {
@@ -99,6 +32,35 @@ fn wait(span: u8, source: u8, weight: i32) -> Edge {
         weight,
     }
 }
+
+/// What the card says to a list of the step U 12 11, which makes edge 14, wait 1 to 0 of -2 for span 1, and of this one.
+fn after_wait(
+    card: &ClosedCard,
+    // a number, as a step keeps it
+    letter: u8,
+    left: u32,
+    right: u32,
+    makes: Edge,
+) -> Result<(), Refusal> {
+    let first = Step {
+        letter: b'U',
+        left: 12,
+        right: 11,
+        makes: wait(1, 1, -2),
+    };
+    let second = Step {
+        letter,
+        left,
+        right,
+        makes,
+    };
+    card.read(&[first, second])
+}
+
+/// What the card says where the second step is lawful, and where it is not.
+const LAWFUL: Result<(), Refusal> = Err(Refusal::NoLoop);
+
+const UNLAWFUL: Result<(), Refusal> = Err(Refusal::StepUnlawful(1));
 
 /// What R makes of edge 14, and what M does.
 const RELEASED: Edge = Edge {
@@ -117,10 +79,10 @@ const PROJECTED: Edge = Edge {
 
 /// X: another span, the wait's span on the made edge, a lower edge that meets the wait.
 fn spans_of_x(tally: &mut Tally, card: &ClosedCard) {
-    tally.note(after_wait(card, b'X', 6, 14, wait(1, 0, 0)) == -2);
-    tally.note(after_wait(card, b'X', 6, 14, wait(0, 0, 0)) == 1);
-    tally.note(after_wait(card, b'X', 6, 7, wait(0, 0, -1)) == 1);
-    tally.note(after_wait(card, b'X', 10, 14, wait(1, 0, 0)) == 1);
+    tally.note(after_wait(card, b'X', 6, 14, wait(1, 0, 0)) == LAWFUL);
+    tally.note(after_wait(card, b'X', 6, 14, wait(0, 0, 0)) == UNLAWFUL);
+    tally.note(after_wait(card, b'X', 6, 7, wait(0, 0, -1)) == UNLAWFUL);
+    tally.note(after_wait(card, b'X', 10, 14, wait(1, 0, 0)) == UNLAWFUL);
 }
 
 /// R and M: the same number twice, and for R a wait that is short enough.
@@ -135,25 +97,25 @@ fn numbers_of_r_and_m(tally: &mut Tally, card: &ClosedCard) {
         weight: 1,
         ..PROJECTED
     };
-    tally.note(after_wait(card, b'R', 14, 14, RELEASED) == -2);
-    tally.note(after_wait(card, b'R', 14, 11, RELEASED) == 1);
-    tally.note(after_wait(card, b'R', 11, 11, long) == 1);
-    tally.note(after_wait(card, b'M', 14, 14, PROJECTED) == -2);
-    tally.note(after_wait(card, b'M', 14, 12, PROJECTED) == 1);
-    tally.note(after_wait(card, b'M', 12, 12, tie) == -2);
-    tally.note(after_wait(card, b'M', 12, 13, tie) == 1);
+    tally.note(after_wait(card, b'R', 14, 14, RELEASED) == LAWFUL);
+    tally.note(after_wait(card, b'R', 14, 11, RELEASED) == UNLAWFUL);
+    tally.note(after_wait(card, b'R', 11, 11, long) == UNLAWFUL);
+    tally.note(after_wait(card, b'M', 14, 14, PROJECTED) == LAWFUL);
+    tally.note(after_wait(card, b'M', 14, 12, PROJECTED) == UNLAWFUL);
+    tally.note(after_wait(card, b'M', 12, 12, tie) == LAWFUL);
+    tally.note(after_wait(card, b'M', 12, 13, tie) == UNLAWFUL);
 }
 
 /// Edges that are not made yet: the step's own, the next, one far off.
 fn references(tally: &mut Tally, card: &ClosedCard) {
-    tally.note(after_wait(card, b'M', 15, 15, PROJECTED) == 1);
-    tally.note(after_wait(card, b'M', 16, 16, PROJECTED) == 1);
-    tally.note(after_wait(card, b'U', 15, 14, wait(1, 1, -2)) == 1);
-    tally.note(after_wait(card, b'M', u32::MAX, u32::MAX, PROJECTED) == 1);
+    tally.note(after_wait(card, b'M', 15, 15, PROJECTED) == UNLAWFUL);
+    tally.note(after_wait(card, b'M', 16, 16, PROJECTED) == UNLAWFUL);
+    tally.note(after_wait(card, b'U', 15, 14, wait(1, 1, -2)) == UNLAWFUL);
+    tally.note(after_wait(card, b'M', u32::MAX, u32::MAX, PROJECTED) == UNLAWFUL);
 }
 
 pub fn side_conditions() -> Tally {
-    let mut tally = Tally::new();
+    let mut tally = Tally::default();
     let card = two_spans();
     spans_of_x(&mut tally, &card);
     numbers_of_r_and_m(&mut tally, &card);
@@ -163,25 +125,25 @@ pub fn side_conditions() -> Tally {
 
 /// Of all letters R alone makes a plain edge of edge 14, and M alone an all-most edge.
 pub fn letters() -> Tally {
-    let mut tally = Tally::new();
+    let mut tally = Tally::default();
     let card = two_spans();
     for letter in 0..255u8 {
         let released = after_wait(&card, letter, 14, 14, RELEASED);
         let projected = after_wait(&card, letter, 14, 14, PROJECTED);
-        tally.note((released == -2) == (letter == b'R'));
-        tally.note((projected == -2) == (letter == b'M'));
+        tally.note((released == LAWFUL) == (letter == b'R'));
+        tally.note((projected == LAWFUL) == (letter == b'M'));
     }
     tally
 }
 
 /// Whether R of edge 14 is lawful with this edge.
 fn releases(card: &ClosedCard, makes: Edge) -> bool {
-    after_wait(card, b'R', 14, 14, makes) == -2
+    after_wait(card, b'R', 14, 14, makes) == LAWFUL
 }
 
 /// The edge must be the one that the step makes, in every part.
 pub fn made_edges() -> Tally {
-    let mut tally = Tally::new();
+    let mut tally = Tally::default();
     let card = two_spans();
     for weight in -5..2i32 {
         tally.note(releases(&card, Edge { weight, ..RELEASED }) == (weight == -2));
@@ -197,7 +159,7 @@ pub fn made_edges() -> Tally {
         };
         tally.note(releases(&card, from) == (point == 1));
         tally.note(releases(&card, to) == (point == 0));
-        tally.note((after_wait(&card, b'X', 6, 14, wait(point, 0, 0)) == -2) == (point == 1));
+        tally.note((after_wait(&card, b'X', 6, 14, wait(point, 0, 0)) == LAWFUL) == (point == 1));
     }
     let lower = Edge {
         kind: Kind::Lower(1),

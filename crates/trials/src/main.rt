@@ -11,26 +11,19 @@ mod ranges;
 mod reader;
 mod tally;
 
-use tally::Tally;
-
-fn report(rt: &HostRuntime, name: &str, tally: Tally) -> anyhow::Result<()> {
-    println!(rt; "{name}: {} hold, {} fail", tally.hold, tally.fail)?;
-    Ok(())
-}
-
-fn run(rt: &HostRuntime) -> anyhow::Result<()> {
-    report(rt, "horizons", ranges::horizons())?;
-    report(rt, "bounds", ranges::bounds())?;
-    report(rt, "gaps", ranges::gaps())?;
-    report(rt, "rooms", ranges::rooms())?;
-    report(rt, "faults of spans", faults::span_faults())?;
-    report(rt, "faults of ties", faults::tie_faults())?;
-    report(rt, "weights at a million", millions::millions())?;
-    report(rt, "side conditions", lists::side_conditions())?;
-    report(rt, "letters", lists::letters())?;
-    report(rt, "made edges", lists::made_edges())?;
-    let outcome = chances::try_cards(2000);
-    report(rt, "random lists", outcome.tally)?;
+fn run(rt: &(impl Print + AllocGlobal)) -> anyhow::Result<()> {
+    println!(rt; "horizons: {}", ranges::horizons())?;
+    println!(rt; "bounds: {}", ranges::bounds())?;
+    println!(rt; "gaps: {}", ranges::gaps())?;
+    println!(rt; "rooms: {}", ranges::rooms())?;
+    println!(rt; "faults of spans: {}", faults::span_faults())?;
+    println!(rt; "faults of ties: {}", faults::tie_faults())?;
+    println!(rt; "weights at a million: {}", millions::millions(rt.alloc())?)?;
+    println!(rt; "side conditions: {}", lists::side_conditions())?;
+    println!(rt; "letters: {}", lists::letters())?;
+    println!(rt; "made edges: {}", lists::made_edges())?;
+    let outcome = chances::try_cards(rt.alloc(), 2000)?;
+    println!(rt; "random lists: {}", outcome.tally)?;
     println!(rt;
         "of these {} pass, {} do not close",
         outcome.passed, outcome.unclosed

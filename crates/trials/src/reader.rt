@@ -1,6 +1,8 @@
 //! A reader of step lists that was written on its own: it writes all edges of a card down, and holds each step's edge against its rule.
 use rules::edges::{Edge, Kind, Step};
 use rules::parts::{Span, Tie};
+use rules::refusal::Refusal;
+use std::alloc::{AllocError, Global};
 
 /// A card as its parts, kept beside the card itself.
 #[derive(Clone, Copy)]
@@ -11,13 +13,6 @@ pub struct Parts<'a> {
     pub ties: &'a [Tie],
 }
 
-pub const NO_EDGE: Edge = Edge {
-    kind: Kind::Plain,
-    source: 0,
-    target: 0,
-    weight: 0,
-};
-
 fn edge(kind: Kind, source: u8, target: u8, weight: i32) -> Edge {
     Edge {
         kind,
@@ -27,69 +22,43 @@ fn edge(kind: Kind, source: u8, target: u8, weight: i32) -> Edge {
     }
 }
 
-/// Writes an edge down and answers the next place; one that is full stays.
-pub fn put(edges: &mut [Edge], place: usize, edge: Edge) -> usize {
-    if place >= edges.len() {
-        return place;
-    }
-    edges[place] = edge;
-    place + 1
+/// The given edges of a point other than 0.
+fn of_point(point: u8, horizon: u16) -> [Edge; 2] {
+    [
+        edge(Kind::Plain, 0, point, i32::from(horizon)),
+        edge(Kind::Plain, point, 0, 0),
+    ]
 }
 
-fn put_points(parts: Parts, edges: &mut [Edge]) -> usize {
-    let mut place = 0;
-    for point in 1..parts.points {
-        place = put(
-            edges,
-            place,
-            edge(Kind::Plain, 0, point, i32::from(parts.horizon)),
-        );
-        place = put(edges, place, edge(Kind::Plain, point, 0, 0));
-    }
-    place
-}
-
-fn put_span(edges: &mut [Edge], place: usize, number: u8, span: Span) -> usize {
+fn of_span(number: u8, span: Span) -> [Edge; 4] {
+    let Span { start, finish, .. } = span;
     let least = i32::from(span.least);
     let most = i32::from(span.most);
-    let place = put(
-        edges,
-        place,
-        edge(Kind::Plain, span.start, span.finish, most),
-    );
-    let place = put(
-        edges,
-        place,
-        edge(Kind::Plain, span.finish, span.start, 0 - least),
-    );
-    let place = put(
-        edges,
-        place,
-        edge(Kind::Lower(number), span.start, span.finish, least),
-    );
-    put(
-        edges,
-        place,
-        edge(Kind::Wait(number), span.finish, span.start, 0 - most),
-    )
+    [
+        edge(Kind::Plain, start, finish, most),
+        edge(Kind::Plain, finish, start, -least),
+        edge(Kind::Lower(number), start, finish, least),
+        edge(Kind::Wait(number), finish, start, -most),
+    ]
 }
 
-/// Writes the given edges down, and answers how many there are.
-pub fn put_given(parts: Parts, edges: &mut [Edge]) -> usize {
-    let mut place = put_points(parts, edges);
-    let mut number: u8 = 0;
-    for span in parts.spans {
-        place = put_span(edges, place, number, *span);
-        number = number.saturating_add(1);
+fn of_tie(tie: Tie) -> Edge {
+    edge(Kind::Plain, tie.from, tie.to, i32::from(tie.gap))
+}
+
+/// The given edges, in the order of their numbers.
+fn given_edges(alloc: Global, parts: Parts) -> Result<Vec<Edge>, AllocError> {
+    let mut given = Vec::new(alloc);
+    for point in 1..parts.points {
+        given.extend_from_slice(&of_point(point, parts.horizon))?;
+    }
+    for (number, span) in (0u8..).zip(parts.spans) {
+        given.extend_from_slice(&of_span(number, *span))?;
     }
     for tie in parts.ties {
-        place = put(
-            edges,
-            place,
-            edge(Kind::Plain, tie.from, tie.to, i32::from(tie.gap)),
-        );
+        given.push(of_tie(*tie))?;
     }
-    place
+    Ok(given)
 }
 
 /// Whether the made edge leads from the left one's source to the right one's target, where the two meet, and weighs their sum.
@@ -107,22 +76,20 @@ fn alike(left: Edge, made: Edge) -> bool {
 }
 
 fn least_of(parts: Parts, span: u8) -> i32 {
-    match parts.spans.get(usize::from(span)) {
-        Some(span) => i32::from(span.least),
-        None => 0,
-    }
+    let span = parts.spans.get(usize::from(span));
+    span.map_or(0, |span| i32::from(span.least))
 }
 
 /// Whether the kinds suit the letter.
 fn kinds_suit(letter: u8, left: Kind, right: Kind, made: Kind) -> bool {
+    // A step keeps its letter as a number.
     match (letter, left, right, made) {
         (b'N', Kind::Plain, Kind::Plain, Kind::Plain) => true,
         (b'U', Kind::Plain, Kind::Wait(s), Kind::Wait(t)) => s == t,
         (b'L', Kind::Lower(_), Kind::Plain, Kind::Plain) => true,
         (b'X', Kind::Lower(k), Kind::Wait(s), Kind::Wait(t)) => s == t && s != k,
         (b'R', Kind::Wait(_), _, Kind::Plain) => true,
-        (b'M', Kind::Plain, _, Kind::AllMost) => true,
-        (b'M', Kind::Wait(_), _, Kind::AllMost) => true,
+        (b'M', Kind::Plain | Kind::Wait(_), _, Kind::AllMost) => true,
         (b'S', Kind::AllMost, Kind::AllMost, Kind::AllMost) => true,
         _ => false,
     }
@@ -145,51 +112,56 @@ fn weights_suit(parts: Parts, step: Step, left: Edge, right: Edge) -> bool {
     }
 }
 
-fn known(edges: &[Edge], count: usize, number: u32) -> Option<Edge> {
-    let number = number as usize;
-    if number >= count {
-        return None;
+/// A card's parts, with all given edges written down.
+#[derive(Drop)]
+pub struct Reader<'a> {
+    parts: Parts<'a>,
+    given: Vec<Edge>,
+}
+
+impl<'a> Reader<'a> {
+    pub fn new(alloc: Global, parts: Parts<'a>) -> Result<Reader<'a>, AllocError> {
+        Ok(Reader {
+            parts,
+            given: given_edges(alloc, parts)?,
+        })
     }
-    edges.get(number).copied()
-}
 
-/// Whether a step is lawful where the first `count` edges are known.
-pub fn is_lawful(parts: Parts, edges: &[Edge], count: usize, step: Step) -> bool {
-    let Some(left) = known(edges, count, step.left) else {
-        return false;
-    };
-    let Some(right) = known(edges, count, step.right) else {
-        return false;
-    };
-    let made = step.makes;
-    made.weight >= -1_000_000
-        && made.weight <= 1_000_000
-        && kinds_suit(step.letter, left.kind, right.kind, made.kind)
-        && weights_suit(parts, step, left, right)
-}
+    /// How many edges are known after these steps.
+    pub fn known(&self, steps: &[Step]) -> usize {
+        self.given.len().saturating_add(steps.len())
+    }
 
-/// Reads a list, with the edges written down.
-fn read_over(parts: Parts, edges: &mut [Edge], steps: &[Step]) -> i32 {
-    let mut count = put_given(parts, edges);
-    let mut last = NO_EDGE;
-    let mut place: i32 = 0;
-    for step in steps {
-        if !is_lawful(parts, edges, count, *step) {
-            return place;
+    /// The edge of a number after these steps: a given one, or one that a step made.
+    pub fn edge(&self, steps: &[Step], number: u32) -> Option<Edge> {
+        let made = steps.iter().map(|step| step.makes);
+        self.given.iter().copied().chain(made).nth(number as usize)
+    }
+
+    /// Whether a step is lawful after these.
+    pub fn is_lawful(&self, steps: &[Step], step: Step) -> bool {
+        let Some(left) = self.edge(steps, step.left) else {
+            return false;
+        };
+        let Some(right) = self.edge(steps, step.right) else {
+            return false;
+        };
+        let made = step.makes;
+        (-1_000_000..=1_000_000).contains(&made.weight)
+            && kinds_suit(step.letter, left.kind, right.kind, made.kind)
+            && weights_suit(self.parts, step, left, right)
+    }
+
+    /// Reads a list, as a card does.
+    pub fn read(&self, steps: &[Step]) -> Result<(), Refusal> {
+        for (place, step) in steps.iter().enumerate() {
+            if !self.is_lawful(&steps[..place], *step) {
+                return Err(Refusal::StepUnlawful(place));
+            }
         }
-        last = step.makes;
-        count = put(edges, count, last);
-        place = place.saturating_add(1);
+        match steps.last() {
+            Some(Step { makes, .. }) if makes.source == makes.target && makes.weight < 0 => Ok(()),
+            _ => Err(Refusal::NoLoop),
+        }
     }
-    if last.source == last.target && last.weight < 0 {
-        -1
-    } else {
-        -2
-    }
-}
-
-/// The answer to a list: -1 if it passes, -2 if it does not close, or the place of its first unlawful step.
-pub fn read(parts: Parts, steps: &[Step]) -> i32 {
-    let mut edges = [NO_EDGE; 64];
-    read_over(parts, &mut edges, steps)
 }
