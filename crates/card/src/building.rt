@@ -60,6 +60,7 @@ impl OpenCard {
     }
 
     /// What the card holds.
+    // Once for each state: an open and a closed card are types of their own.
     pub fn network(&self) -> &Network
         ensures { result.now ≡ self.now.network }
     {
@@ -77,6 +78,7 @@ impl ClosedCard {
     }
 
     /// What the card holds.
+    // Once for each state: an open and a closed card are types of their own.
     pub fn network(&self) -> &Network
         ensures { result.now ≡ self.now.network }
     {

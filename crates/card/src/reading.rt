@@ -19,6 +19,7 @@ impl ClosedCard {
         steps::reads::read(&self.network, steps)
     }
 
+    // The letter is a number, as a step keeps it.
     /// The edge that a step with this letter, left and right makes after these steps; none if no edge makes it lawful.
     pub fn next_edge(&self, steps: &[Step], letter: u8, left: u32, right: u32) -> Option<Edge>
         ensures { Makes (model self.now.network.content) (known (model self.now.network.content) steps.now (length steps.now)) letter left right result }

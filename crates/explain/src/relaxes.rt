@@ -10,7 +10,7 @@ use crate::work::{Best, Stop};
 use rules::edges::Step;
 use steps::given::given_count;
 
-// Places by numbers and no struct: each rule takes its own of p, q and x, and the loops run over one of them.
+// Places by numbers and no struct: each rule takes its own of p, q, x and s, and the loops run over one of them.
 impl Search<'_> {
     /// Takes the step if it makes a better edge from p to column x than is known, and closes the loop if the edge back makes it negative.
     pub(crate) fn relax(&mut self, p: usize, x: usize, step: Step) -> Result<bool, Stop>

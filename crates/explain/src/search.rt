@@ -6,7 +6,7 @@ use network::network::Network;
 use rules::edges::Step;
 use std::ops::Range;
 
-// `Ready` is no invariant: it holds neither before the given edges are tested nor when a negative loop ends the list.
+// No invariants, but facts of a stage: `Fresh` holds until a step is written, and `Ready` from the test of the given edges until a negative loop ends the list.
 #[derive(Drop)]
 pub(crate) struct Search<'a> {
     pub(crate) network: &'a Network,

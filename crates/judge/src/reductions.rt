@@ -9,7 +9,7 @@ use crate::parts::{span_of, tie_of};
 use crate::relaxation::Relaxation;
 use crate::target::{NegativeLoop, Target};
 
-// That s is a span and p a point is a clause: they are numbers at which tables are read.
+// That s is a span, p a point and x a target of the card is a clause: they are places at which tables are read.
 impl Relaxation<'_> {
     /// The edge of tie i.
     pub(crate) fn hold_tie(&mut self, i: usize) -> Result<bool, NegativeLoop>

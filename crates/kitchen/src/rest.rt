@@ -66,6 +66,7 @@ fn count_after<K: Kitchen>(kitchen: &K, span: usize, count: u16) -> u16
 }
 
 /// Counts the next advance of a kitchen.
+// An array, as a resting kitchen keeps its rests.
 pub fn count_advance<K: Kitchen>(kitchen: &K, rests: &mut [Rest; MAX_SPANS])
     ensures { Counted (K.Kitchen.spans kitchen.now) rests.old rests.new }
 {

@@ -2,6 +2,8 @@ use crate::event::Event;
 use crate::write::write_line;
 use rules::refusal::Refusal;
 
+// Each test shows its whole buffer.
+
 #[test]
 fn writes_a_finish(rt: HostRuntime) {
     let mut buffer = [b'x'; 27];

@@ -49,7 +49,7 @@ module _ (card : Card) (steps : List Step) where
   pub known_none : (n k : ℕ) → length (given card) + n ≤ k → None ≡ edge_at (known card steps n) k
   known_none n k h = edge_none (known card steps n) k (omega (arith, known_length n))
 
--- the edges known after n steps hang on those steps alone
+-- the edges known after n steps depend on those steps alone
 known_same : (card : Card) (xs ys : List Step) (n : ℕ) → ((i : ℕ) → i < n → step_at xs i ≡ step_at ys i) → known card xs n ≡ known card ys n
 unfolding known
 known_same card xs ys zero e = refl

@@ -7,6 +7,8 @@ use network::network::Network;
 use rules::edges::{Edge, Kind};
 use rules::parts::Span;
 
+// A number beside the network: a given edge is worked out from both.
+
 /// How many given edges a card has.
 pub fn given_count(network: &Network) -> usize
     ensures { result ≡ length (given (model network.now.content)) }

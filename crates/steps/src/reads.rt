@@ -12,6 +12,8 @@ use rules::refusal::Refusal;
 
 // Letters are numbers, as steps keep them.
 
+// The steps are the caller's, and read at every length: no struct holds them with the network.
+
 /// The edge of this number where these steps have been made.
 fn edge_at(network: &Network, made: &[Step], number: u32) -> Option<Edge>
     ensures { result ≡ edge_at (all_known (model network.now.content) made.now) number }

@@ -82,6 +82,7 @@ fn try_room<T: Drop, F: Fn(&mut OpenCard) -> Result<T, Refusal>>(
 )
     requires { F.IsAlwaysCallable call }
 {
+    // The count tells when the room is used up.
     for made in 0..calls {
         try_call(tally, card, (made >= room).then_some(full), &call);
     }

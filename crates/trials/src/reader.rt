@@ -49,6 +49,7 @@ fn of_tie(tie: Tie) -> Edge {
 /// The given edges, in the order of their numbers.
 fn given_edges(alloc: Global, parts: Parts) -> Result<Vec<Edge>, AllocError> {
     let mut given = Vec::new(alloc);
+    // A point is its number.
     for point in 1..parts.points {
         given.extend_from_slice(&of_point(point, parts.horizon))?;
     }

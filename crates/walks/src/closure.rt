@@ -51,7 +51,7 @@ fn double<W: Weight, const N: usize>(best: &[[W; N]], into: &mut [[W; N]])
 
 /// The best weight over all walks of 1 to 2 ^ doublings edges, from each of the first n points to each.
 /// The other entries of `out` and `scratch` stay.
-// Tables are arrays that the caller lends: the search asks for no memory.
+// Rows and tables, here and above, are arrays that the caller lends: the search asks for no memory.
 pub fn best_walks<W: Weight, const N: usize>(
     edges: &[[W; N]; N],
     out: &mut [[W; N]; N],
@@ -68,7 +68,7 @@ pub fn best_walks<W: Weight, const N: usize>(
     let out = &mut out[..n];
     let scratch = &mut scratch[..n];
     copy(&edges[..n], out);
-    // Named for the invariant, which speaks of the count.
+    // Named for the invariant, which names the count.
     for _d in 0..doublings {
         double(out, scratch);
         copy(scratch, out);

@@ -14,6 +14,7 @@ pub struct PlainWait {
     pub wait: Minutes,
 }
 
+// The laws are stated again, as in `Minutes`: each is a proof of its own.
 impl Weight for PlainWait {
     ghost Model = { Pair };
 

@@ -4,7 +4,7 @@ ghost use Rattle.walks.specs.Tables.{entry, Beyond};
 
 use crate::weight::Weight;
 
-// Reads and writes as functions of their own: their contracts name the entry, which the proofs of other crates use.
+// Reads and writes as functions of their own: their contracts name the entry, which the proofs of other crates use. They are arrays that callers lend.
 
 /// The weight at place q of a row.
 pub fn weight_at<W: Weight, const N: usize>(row: &[W; N], q: usize) -> W

@@ -33,6 +33,8 @@ fn lengthen<W: Weight, const N: usize>(edges: &[[W; N]; N], best: &mut [W; N], n
     }
 }
 
+// Rows and tables here are arrays that the caller lends: the search asks for no memory.
+
 /// The best weight over all walks of 1 to k edges, from each of the first n points to one target: `last` has the
 /// weights of the edges to the target, and `edges` those of the other edges. The other entries of `out` stay.
 pub fn best_walks_to<W: Weight, const N: usize>(
@@ -49,7 +51,7 @@ pub fn best_walks_to<W: Weight, const N: usize>(
     ensures beyond { BeyondRow W.absent n out.old out.new }
 {
     out[..n].copy_from_slice(&last[..n]);
-    // Named for the invariant, which speaks of the count.
+    // Named for the invariant, which names the count.
     for _j in 1..k {
         lengthen(edges, out, n);
     }

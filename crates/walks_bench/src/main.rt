@@ -26,6 +26,8 @@ const EDGES: usize = 32;
 
 const ROUNDS: usize = 1000;
 
+// Tables here are arrays, as the walks take them.
+
 /// Fills a table with samples, none absent.
 fn fill<W: Sample>(table: &mut [[W; POINTS]; POINTS], seed: usize)
     ensures { Small W.Weight.size (cell W.Weight.meaning W.Weight.absent table.new) 32 1440 }

@@ -13,7 +13,7 @@ use Rattle.explain.proofs.Holding.{point_room, column_room, given_few, few, near
 use Rattle.explain.proofs.search.Search.relax.Goals as goal
 use Rattle.explain.proofs.search.Search.relax.Goals.{After-head-head, After-at-back}
 
--- where the code has come so far, the step is worth making
+-- past the tests, the step is worth making
 less : (c : After-head-head) → c.args.step.makes.weight <ℤ at c.args.self.now.work.best c.args.p c.args.x
 less c =
     let s = c.args.self.now in
