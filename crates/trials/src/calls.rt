@@ -10,6 +10,8 @@ fn same(a: &Network, b: &Network) -> bool {
         && a.points() == b.points()
         && a.spans() == b.spans()
         && a.ties() == b.ties()
+        && (0..9).all(|s| a.span(s) == b.span(s))
+        && (0..98).all(|i| a.tie(i) == b.tie(i))
         && (0..32u8).all(|point| a.is_finish(point) == b.is_finish(point))
 }
 

@@ -1,4 +1,5 @@
 //! Random step lists over random small cards: the reader against the one that was written on its own.
+use crate::list::List;
 use crate::random::Random;
 use crate::reader::{Parts, Reader};
 use crate::tally::Tally;
@@ -7,7 +8,6 @@ use card::open::OpenCard;
 use rules::edges::{Edge, Kind, Step};
 use rules::parts::{Span, Tie};
 use rules::refusal::Refusal;
-use std::alloc::{AllocError, Global};
 
 /// The longest list that is tried.
 const STEPS: usize = 16;
@@ -126,25 +126,19 @@ fn some_join(random: &mut Random, count: usize) -> Join {
 }
 
 /// A list of steps that the card makes edges for.
-fn some_list(
-    alloc: Global,
-    tally: &mut Tally,
-    random: &mut Random,
-    card: &ClosedCard,
-    reader: &Reader,
-) -> Result<Vec<Step>, AllocError> {
-    let mut steps = Vec::new(alloc);
+fn some_list(tally: &mut Tally, random: &mut Random, card: &ClosedCard, reader: &Reader) -> List {
+    let mut steps = List::new();
     for _ in 0..100 {
         let join = some_join(random, reader.known(steps.as_slice()));
         let answer = card.next_edge(steps.as_slice(), join.letter, join.left, join.right);
         tally.note(is_right(reader, steps.as_slice(), join, answer));
         if let Some(makes) = answer
-            && steps.len() < STEPS
+            && steps.as_slice().len() < STEPS
         {
-            steps.push(join.making(makes))?;
+            steps.push(join.making(makes));
         }
     }
-    Ok(steps)
+    steps
 }
 
 /// Turns a part of one step, if the list has the step.
@@ -178,7 +172,7 @@ fn compare(outcome: &mut Outcome, card: &ClosedCard, reader: &Reader, steps: &[S
     }
 }
 
-fn try_card(alloc: Global, outcome: &mut Outcome, random: &mut Random) -> Result<(), AllocError> {
+fn try_card(outcome: &mut Outcome, random: &mut Random) {
     let spans = [some_span(random, 2), some_span(random, 3)];
     let ties = [some_tie(random), some_tie(random), some_tie(random)];
     let parts = Parts {
@@ -188,20 +182,19 @@ fn try_card(alloc: Global, outcome: &mut Outcome, random: &mut Random) -> Result
         ties: &ties,
     };
     let card = build(parts);
-    let reader = Reader::new(alloc, parts)?;
-    let mut steps = some_list(alloc, &mut outcome.tally, random, &card, &reader)?;
+    let reader = Reader::new(parts);
+    let mut steps = some_list(&mut outcome.tally, random, &card, &reader);
     compare(outcome, &card, &reader, steps.as_slice());
     spoil(random, steps.as_mut_slice());
     compare(outcome, &card, &reader, steps.as_slice());
-    Ok(())
 }
 
 /// Tries so many cards.
-pub fn try_cards(alloc: Global, cards: u32) -> Result<Outcome, AllocError> {
+pub fn try_cards(cards: u32) -> Outcome {
     let mut random = Random { state: 20 };
     let mut outcome = Outcome::default();
     for _ in 0..cards {
-        try_card(alloc, &mut outcome, &mut random)?;
+        try_card(&mut outcome, &mut random);
     }
-    Ok(outcome)
+    outcome
 }

@@ -1,4 +1,5 @@
 //! Step lists by hand: what the reader says to each.
+use crate::list::List;
 use crate::tally::Tally;
 use card::closed::ClosedCard;
 use card::open::OpenCard;
@@ -33,7 +34,7 @@ fn wait(span: u8, source: u8, weight: i32) -> Edge {
     }
 }
 
-/// What the card says to a list of the step U 12 11, which makes edge 14, wait 1 to 0 of -2 for span 1, and of this one.
+/// What the card says to a list of the step U 12 11, whose edge it makes itself (edge 14, wait 1 to 0 of -2 for span 1), and of this one.
 fn after_wait(
     card: &ClosedCard,
     // a number, as a step keeps it
@@ -42,19 +43,15 @@ fn after_wait(
     right: u32,
     makes: Edge,
 ) -> Result<(), Refusal> {
-    let first = Step {
-        letter: b'U',
-        left: 12,
-        right: 11,
-        makes: wait(1, 1, -2),
-    };
-    let second = Step {
+    let mut steps = List::new();
+    steps.add(card, b'U', 12, 11);
+    steps.push(Step {
         letter,
         left,
         right,
         makes,
-    };
-    card.read(&[first, second])
+    });
+    card.read(steps.as_slice())
 }
 
 /// What the card says where the second step is lawful, and where it is not.

@@ -1,11 +1,11 @@
 //! Weights at the limit of a million: loops that are doubled by N up to it, and one step over it.
+use crate::list::List;
 use crate::tally::Tally;
 use card::closed::ClosedCard;
 use card::open::OpenCard;
 use rules::edges::{Edge, Kind, Step};
 use rules::parts::Tie;
 use rules::refusal::Refusal;
-use std::alloc::{AllocError, Global};
 
 /// Point 1, and 0 to 1 by way of a tie of this gap: the loop 0 to 0 of the gap is made by N 2 1.
 fn gap_card(gap: i16) -> ClosedCard {
@@ -22,37 +22,17 @@ fn gap_card(gap: i16) -> ClosedCard {
     card.close()
 }
 
-/// Adds the step with the edge that it makes; a step that makes none is left out.
-fn add(
-    card: &ClosedCard,
-    steps: &mut Vec<Step>,
-    // a number, as a step keeps it
-    letter: u8,
-    left: u32,
-    right: u32,
-) -> Result<(), AllocError> {
-    if let Some(makes) = card.next_edge(steps.as_slice(), letter, left, right) {
-        steps.push(Step {
-            letter,
-            left,
-            right,
-            makes,
-        })?;
-    }
-    Ok(())
-}
-
 /// Doubles a loop of a thousand nine times, then adds up to a million: edges 5 to 14 weigh 1, 2, 4 .. 512 thousand.
-fn to_a_million(alloc: Global, card: &ClosedCard) -> Result<Vec<Step>, AllocError> {
-    let mut steps = Vec::new(alloc);
-    add(card, &mut steps, b'N', 2, 1)?;
+fn to_a_million(card: &ClosedCard) -> List {
+    let mut steps = List::new();
+    steps.add(card, b'N', 2, 1);
     for number in 5..14u32 {
-        add(card, &mut steps, b'N', number, number)?;
+        steps.add(card, b'N', number, number);
     }
     for (left, right) in [(14, 13), (15, 12), (16, 11), (17, 10), (18, 8)] {
-        add(card, &mut steps, b'N', left, right)?;
+        steps.add(card, b'N', left, right);
     }
-    Ok(steps)
+    steps
 }
 
 /// Whether 15 steps stand, and the last makes an edge of this weight.
@@ -61,13 +41,7 @@ fn ends_at(steps: &[Step], weight: i32) -> bool {
 }
 
 /// One step over the limit, that claims this weight.
-fn try_over(
-    tally: &mut Tally,
-    card: &ClosedCard,
-    steps: &mut Vec<Step>,
-    tie: u32,
-    weight: i32,
-) -> Result<(), AllocError> {
+fn try_over(tally: &mut Tally, card: &ClosedCard, steps: &mut List, tie: u32, weight: i32) {
     let makes = Edge {
         kind: Kind::Plain,
         source: 0,
@@ -80,30 +54,29 @@ fn try_over(
         left: 19,
         right: tie,
         makes,
-    })?;
+    });
     tally.note(card.read(steps.as_slice()) == Err(Refusal::StepUnlawful(15)));
-    let _ = steps.pop();
-    Ok(())
+    steps.pop();
 }
 
 /// Up to a million, over it, and down to less than minus a million.
-pub fn millions(alloc: Global) -> Result<Tally, AllocError> {
+pub fn millions() -> Tally {
     let mut tally = Tally::default();
     let up = gap_card(1000);
-    let mut steps = to_a_million(alloc, &up)?;
+    let mut steps = to_a_million(&up);
     tally.note(ends_at(steps.as_slice(), 1_000_000));
     tally.note(up.read(steps.as_slice()) == Err(Refusal::NoLoop));
     for weight in [1_000_001, 1_000_000, i32::MAX] {
-        try_over(&mut tally, &up, &mut steps, 3, weight)?;
+        try_over(&mut tally, &up, &mut steps, 3, weight);
     }
     let down = gap_card(-1000);
-    let mut steps = to_a_million(alloc, &down)?;
+    let mut steps = to_a_million(&down);
     tally.note(ends_at(steps.as_slice(), -1_000_000));
     tally.note(down.read(steps.as_slice()) == Ok(()));
     for weight in [-1_000_001, -1_000_000, i32::MIN] {
-        try_over(&mut tally, &down, &mut steps, 4, weight)?;
+        try_over(&mut tally, &down, &mut steps, 4, weight);
     }
-    add(&down, &mut steps, b'M', 19, 19)?;
-    tally.note(steps.len() == 16 && down.read(steps.as_slice()) == Ok(()));
-    Ok(tally)
+    steps.add(&down, b'M', 19, 19);
+    tally.note(steps.as_slice().len() == 16 && down.read(steps.as_slice()) == Ok(()));
+    tally
 }

@@ -1,8 +1,8 @@
 //! A reader of step lists that was written on its own: it writes all edges of a card down, and holds each step's edge against its rule.
+use crate::list::NO_EDGE;
 use rules::edges::{Edge, Kind, Step};
 use rules::parts::{Span, Tie};
 use rules::refusal::Refusal;
-use std::alloc::{AllocError, Global};
 
 /// A card as its parts, kept beside the card itself.
 #[derive(Clone, Copy)]
@@ -44,22 +44,6 @@ fn of_span(number: u8, span: Span) -> [Edge; 4] {
 
 fn of_tie(tie: Tie) -> Edge {
     edge(Kind::Plain, tie.from, tie.to, i32::from(tie.gap))
-}
-
-/// The given edges, in the order of their numbers.
-fn given_edges(alloc: Global, parts: Parts) -> Result<Vec<Edge>, AllocError> {
-    let mut given = Vec::new(alloc);
-    // A point is its number.
-    for point in 1..parts.points {
-        given.extend_from_slice(&of_point(point, parts.horizon))?;
-    }
-    for (number, span) in (0u8..).zip(parts.spans) {
-        given.extend_from_slice(&of_span(number, *span))?;
-    }
-    for tie in parts.ties {
-        given.push(of_tie(*tie))?;
-    }
-    Ok(given)
 }
 
 /// Whether the made edge leads from the left one's source to the right one's target, where the two meet, and weighs their sum.
@@ -113,30 +97,60 @@ fn weights_suit(parts: Parts, step: Step, left: Edge, right: Edge) -> bool {
     }
 }
 
+/// No card that is tried has more given edges.
+const GIVEN: usize = 64;
+
 /// A card's parts, with all given edges written down.
-#[derive(Drop)]
+// In an array, as a list's steps are.
+#[derive(Clone, Copy)]
 pub struct Reader<'a> {
     parts: Parts<'a>,
-    given: Vec<Edge>,
+    given: [Edge; GIVEN],
+    count: usize,
 }
 
 impl<'a> Reader<'a> {
-    pub fn new(alloc: Global, parts: Parts<'a>) -> Result<Reader<'a>, AllocError> {
-        Ok(Reader {
+    /// Writes the given edges down, in the order of their numbers.
+    pub fn new(parts: Parts<'a>) -> Reader<'a> {
+        let mut reader = Reader {
             parts,
-            given: given_edges(alloc, parts)?,
-        })
+            given: [NO_EDGE; GIVEN],
+            count: 0,
+        };
+        // A point is its number.
+        for point in 1..parts.points {
+            reader.give(&of_point(point, parts.horizon));
+        }
+        for (number, span) in (0u8..).zip(parts.spans) {
+            reader.give(&of_span(number, *span));
+        }
+        for tie in parts.ties {
+            reader.give(&[of_tie(*tie)]);
+        }
+        reader
+    }
+
+    fn give(&mut self, edges: &[Edge]) {
+        for edge in edges {
+            if self.count < GIVEN {
+                self.given[self.count] = *edge;
+                self.count += 1;
+            }
+        }
     }
 
     /// How many edges are known after these steps.
     pub fn known(&self, steps: &[Step]) -> usize {
-        self.given.len().saturating_add(steps.len())
+        self.count.saturating_add(steps.len())
     }
 
     /// The edge of a number after these steps: a given one, or one that a step made.
     pub fn edge(&self, steps: &[Step], number: u32) -> Option<Edge> {
-        let made = steps.iter().map(|step| step.makes);
-        self.given.iter().copied().chain(made).nth(number as usize)
+        let number = number as usize;
+        match number.checked_sub(self.count) {
+            Some(place) => steps.get(place).map(|step| step.makes),
+            None => self.given.get(number).copied(),
+        }
     }
 
     /// Whether a step is lawful after these.
