@@ -182,10 +182,12 @@ fn read_run(words: &[&str]) -> Result<RunCommand, CommandError> {
 }
 
 fn read_minutes(alloc: Global, words: &[&str]) -> Result<Vec<u16>, CommandError> {
-    words
-        .iter()
-        .map(|word| read_number(word, u16::MAX))
-        .try_collect(alloc)
+    let mut minutes = Vec::new(alloc);
+    // A push for each: lines of many numbers took longer by `try_collect`.
+    for word in words {
+        minutes.push(read_number(word, u16::MAX)?)?;
+    }
+    Ok(minutes)
 }
 
 fn read_bounds(alloc: Global, words: &[&str]) -> Result<Vec<(u16, u16)>, CommandError> {

@@ -2,20 +2,25 @@
 use crate::errors::CommandError;
 
 /// What decimal digits spell, cut to what 64 bits hold.
-fn magnitude(digits: &str) -> Option<i64> {
+// Bytes: with characters, lines of many numbers took an eighth more instructions.
+fn magnitude(digits: &[u8]) -> Option<i64> {
     if digits.is_empty() {
         return None;
     }
-    digits.chars().try_fold(0i64, |number, digit| {
-        let digit = i64::from(digit.to_digit(10)?);
-        Some(number.saturating_mul(10).saturating_add(digit))
+    digits.iter().try_fold(0i64, |number, digit| match *digit {
+        b'0'..=b'9' => {
+            let digit = i64::from(*digit - b'0');
+            Some(number.saturating_mul(10).saturating_add(digit))
+        }
+        _ => None,
     })
 }
 
 fn spelled(word: &str) -> Option<i64> {
-    match word.strip_prefix('-') {
-        Some(digits) => Some(magnitude(digits)?.saturating_neg()),
-        None => magnitude(word.strip_prefix('+').unwrap_or(word)),
+    match word.as_bytes() {
+        [b'-', digits @ ..] => Some(magnitude(digits)?.saturating_neg()),
+        [b'+', digits @ ..] => magnitude(digits),
+        digits => magnitude(digits),
     }
 }
 
