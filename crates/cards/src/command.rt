@@ -183,7 +183,7 @@ fn read_run(words: &[&str]) -> Result<RunCommand, CommandError> {
 
 fn read_minutes(alloc: Global, words: &[&str]) -> Result<Vec<u16>, CommandError> {
     let mut minutes = Vec::new(alloc);
-    // A push for each: lines of many numbers took longer by `try_collect`.
+    // A push for each: by `try_collect` a line of many rests took a fortieth more instructions.
     for word in words {
         minutes.push(read_number(word, u16::MAX)?)?;
     }
